@@ -1,0 +1,6 @@
+pub mod Tests
+pub mod Below
+pub mod Count
+pub mod Sets
+pub mod Word
+pub mod WordOrder

@@ -1,0 +1,98 @@
+// A 64-bit word as a set of the numbers 0 to 63.
+ghost use mathlib.Core.Path.{_≡_};
+ghost use mathlib.Core.Bool.{_&&_};
+ghost use Rattle.bitset.specs.Below.{anyBelow, firstBelow, lastBelow, countBelow, differ, within};
+ghost use Rattle.bitset.specs.Word.{member, inserted, removed, fullBelow, fromUp};
+
+// Whether `element` is in the set; no number from 64 up is.
+pub fn contains(set: u64, element: usize) -> bool
+    ensures { λ r. ⌜ r ≡ member set element ⌝ }
+{
+    if element < 64 {
+        (set >> element) & 1 == 1
+    } else {
+        false
+    }
+}
+
+// The set with `element` put in; the set itself where `element` is 64 or more.
+pub fn insert(set: u64, element: usize) -> u64
+    ensures { λ r. ⌜ r ≡ inserted set element ⌝ }
+{
+    if element < 64 {
+        set | (1u64 << element)
+    } else {
+        set
+    }
+}
+
+// The set without `element`.
+pub fn remove(set: u64, element: usize) -> u64
+    ensures { λ r. ⌜ r ≡ removed set element ⌝ }
+{
+    if contains(set, element) {
+        set ^ (1u64 << element)
+    } else {
+        set
+    }
+}
+
+// The set of the numbers below `n`; of all 64 where `n` is more.
+pub fn full_below(n: usize) -> u64
+    ensures { λ r. ⌜ r ≡ fullBelow n ⌝ }
+{
+    if n < 64 { (1u64 << n) - 1 } else { u64::MAX }
+}
+
+// How many numbers are in the set.
+pub fn size(set: u64) -> usize
+    ensures { λ r. ⌜ r ≡ countBelow 64 (member set) ⌝ }
+{
+    u64::count_ones(set) as usize
+}
+
+// The smallest number of the set; 64 where it is empty.
+pub fn smallest(set: u64) -> usize
+    ensures { λ r. ⌜ r ≡ firstBelow 64 (member set) ⌝ }
+{
+    u64::trailing_zeros(set) as usize
+}
+
+// The largest number of the set; 0 where it is empty.
+pub fn largest(set: u64) -> usize
+    ensures { λ r. ⌜ r ≡ lastBelow 64 (member set) ⌝ }
+{
+    if set == 0 {
+        0
+    } else {
+        63 - u64::leading_zeros(set) as usize
+    }
+}
+
+// The smallest number that is in just one of the two sets; 64 where they are equal.
+pub fn lowest_difference(a: u64, b: u64) -> usize
+    ensures { λ r. ⌜ r ≡ firstBelow 64 (differ (member a) (member b)) ⌝ }
+{
+    smallest(a ^ b)
+}
+
+// Whether every number of `a` is in `b`.
+pub fn subset(a: u64, b: u64) -> bool
+    ensures { λ r. ⌜ r ≡ within 64 (member a) (member b) ⌝ }
+{
+    a & b == a
+}
+
+// Whether the two sets differ and the largest number that is in just one of them is in `a`.
+pub fn above(a: u64, b: u64) -> bool
+    ensures { λ r. ⌜ r ≡ (anyBelow 64 (differ (member a) (member b)) && member a (lastBelow 64 (differ (member a) (member b)))) ⌝ }
+{
+    b < a
+}
+
+// Whether the set has a number from `n` up.
+pub fn any_from(set: u64, n: usize) -> bool
+    ensures { λ r. ⌜ r ≡ anyBelow 64 (fromUp n set) ⌝ }
+{
+    if n < 64 { set >> n != 0 } else { false }
+}
