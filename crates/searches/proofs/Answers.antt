@@ -1,0 +1,179 @@
+-- What the calls answer where nothing is refused, and when that is.
+--   accepts-both, both-accept        tests one behind the other
+--   ordering-accepted, accepted-ordering   judge refuses no ordering of a valid graph, and nothing else passes its tests
+--   start-accepted, accepted-start         likewise for carry-on
+--   judge-refused, judge-accepted          judge's answer, refused and not
+--   prefix-judged                          judge's answer on a prefix
+--   carryOn-done, carryOn-kept             what carry-on leaves in the output list
+-- Assumes nothing.
+use mathlib.Core.Path.{_≡_, refl, sym, ap, _∙_, subst}
+use mathlib.Core.Logic.{_⊎_, inl, inr, ⊎-elim}
+use mathlib.Core.Bool.{Bool, not, _||_}
+use mathlib.Core.List.{List, [], _∷_, _++_}
+use Prim.Native.Nat.{ℕ, _≤_, _<_}
+use native.Mathlib.Omega.{arith}
+use lib.Dec.{T, ltb, eqb, ltb→lt, nltb→le, eqb→eq, eqb-refl, not-T, T-not}
+use lib.ListN.{length, take, drop}
+use lib.Seq.{length-take-le}
+use Rattle.bitset.proofs.Tests.{or-inl, or-inr, or-out, below-or, not-not}
+use Rattle.searches.specs.Kind.{searchOf}
+use Rattle.searches.specs.Ordering.{arcs, at, IsOrdering, IsFullOrdering}
+use Rattle.searches.specs.Violation.{Verdict, passes, fails, refused, judge}
+use Rattle.searches.specs.CarryOn.{carryOn}
+use Rattle.searches.specs.Answer.{vertexOutside, repeated, isPass, openTests, judgeTests, carryOnTests, Accepts, Refuses}
+use Rattle.searches.specs.Answer.{judgeAnswer, carryOnOutput}
+use Rattle.searches.proofs.Ordering.{take-agree, agree-sym, ordering-fits, ordering-agree}
+use Rattle.searches.proofs.Judge.{Judged, judge-says}
+use Rattle.searches.proofs.Passing.{judge-take}
+use Rattle.searches.proofs.Refusals.{vertexOutside-in, vertexOutside-out, repeated-in, repeated-out, accepts-none, refuses-first, accepts-or-refuses}
+
+pub accepts-both : (a b : List (ℕ × Bool)) → Accepts (a ++ b) → Accepts a × Accepts b
+accepts-both [] b x = (tt, x)
+accepts-both (test ∷ a) b x = let rest = accepts-both a b (x .1) in ((x .0, rest .0), rest .1)
+
+pub both-accept : (a b : List (ℕ × Bool)) → Accepts a → Accepts b → Accepts (a ++ b)
+both-accept [] b x y = y
+both-accept (test ∷ a) b x y = (x .0, both-accept a b (x .1) y)
+
+-- ---- an ordering is what the tests on its vertices let through
+
+clear : (n : ℕ) (w : List ℕ) (k : ℕ) → k ≤ length w → (T (vertexOutside n w k) → ⊥) → (T (repeated w k) → ⊥) → IsOrdering n w k
+clear n w k l inside once = record {
+  long = l;
+  vertices = λ p h. under p h (below-or (at w p) n);
+  distinct = λ p q h i e. once (repeated-in w k p q h i e);
+}
+  where
+    under : (p : ℕ) → p < k → (at w p < n) ⊎ (n ≤ at w p) → at w p < n
+    under p h (inl i) = i
+    under p h (inr i) = absurd (inside (vertexOutside-in w k n p h i))
+
+all-inside : {n : ℕ} {w : List ℕ} {k : ℕ} → IsOrdering n w k → T (vertexOutside n w k) → ⊥
+all-inside {n} {w} {k} o t = let x = vertexOutside-out w k n t in omega (arith, x .2, o .vertices (x .0) (x .1))
+
+none-repeated : {n : ℕ} {w : List ℕ} {k : ℕ} → IsOrdering n w k → T (repeated w k) → ⊥
+none-repeated {n} {w} {k} o t = let x = repeated-out w k t in o .distinct (x .0) (x .1) (x .2) (x .3) (x .4)
+
+-- ---- judge
+
+module _ (kind : ℕ) (rows w : List ℕ) where
+  pub ordering-accepted : Accepts (openTests kind rows) → IsOrdering (length rows) w (length w) → Accepts (judgeTests kind rows w)
+  unfolding judgeTests
+  ordering-accepted a o =
+      both-accept (openTests kind rows) _ a
+      (λ t. let l = ltb→lt (length rows) (length w) t in let h = ordering-fits (length rows) o in omega arith, (all-inside o, (none-repeated o, tt)))
+
+  pub accepted-ordering : Accepts (judgeTests kind rows w) → Accepts (openTests kind rows) × IsOrdering (length rows) w (length w)
+  unfolding judgeTests
+  accepted-ordering a =
+      let x = accepts-both (openTests kind rows) _ a in
+      (x .0, clear (length rows) w (length w) (omega arith) (x .1 .1 .0) (x .1 .1 .1 .0))
+
+  pub judge-accepted : Accepts (judgeTests kind rows w) → judgeAnswer kind rows w ≡ judge (searchOf kind) (arcs rows) (length rows) w (length w)
+  unfolding judgeAnswer
+  judge-accepted a = rw (accepts-none (judgeTests kind rows w) a, judgeAnswer)
+
+  pub judge-refused : (r : ℕ) → Refuses r (judgeTests kind rows w) → judgeAnswer kind rows w ≡ refused r
+  unfolding judgeAnswer
+  judge-refused r x = rw (refuses-first (judgeTests kind rows w) r x, judgeAnswer)
+
+  -- an ordering is passed or failed, and never refused
+  judge-decides : Accepts (judgeTests kind rows w) → (r : ℕ) → judge (searchOf kind) (arcs rows) (length rows) w (length w) ≡ refused r → ⊥
+  judge-decides a r e =
+      subst (λ (v : Verdict). Judged (searchOf kind) (arcs rows) (length rows) w (length w) v) e
+      (judge-says (searchOf kind) (arcs rows) (length rows) w (length w) (accepted-ordering a .1))
+
+  pub refused-judge : (r : ℕ) → judgeAnswer kind rows w ≡ refused r → Refuses r (judgeTests kind rows w)
+  refused-judge r e = go (accepts-or-refuses (judgeTests kind rows w))
+    where
+      go : Accepts (judgeTests kind rows w) ⊎ ((q : ℕ) × Refuses q (judgeTests kind rows w)) → Refuses r (judgeTests kind rows w)
+      go (inl a) = absurd (judge-decides a r (sym (judge-accepted a) ∙ e))
+      go (inr x) = let same : x .0 ≡ r = cc (judge-refused (x .0) (x .1)) in subst (λ (q : ℕ). Refuses q (judgeTests kind rows w)) same (x .1)
+
+-- the answer on a prefix, as a list of its own, is the verdict on so many positions
+pub prefix-judged : (kind : ℕ) (rows w : List ℕ) (k : ℕ) → Accepts (openTests kind rows) → IsOrdering (length rows) w k
+    → judgeAnswer kind rows (take k w) ≡ judge (searchOf kind) (arcs rows) (length rows) w k
+prefix-judged kind rows w k a o =
+    let len : length (take k w) ≡ k = length-take-le k w (o .long) in
+    let part : IsOrdering (length rows) (take k w) (length (take k w)) =
+    subst (λ (m : ℕ). IsOrdering (length rows) (take k w) m) (sym len)
+    (ordering-agree (length rows) (take k w) (omega arith) (agree-sym k (take k w) w (take-agree k w)) o)
+    in
+    judge-accepted kind rows (take k w) (ordering-accepted kind rows (take k w) a part)
+    ∙ ap (λ (m : ℕ). judge (searchOf kind) (arcs rows) (length rows) (take k w) m) len
+    ∙ judge-take (searchOf kind) (arcs rows) (length rows) w k
+
+-- ---- carry-on
+
+pub isPass-in : (v : Verdict) → v ≡ passes → T (isPass v)
+unfolding isPass
+isPass-in v e = subst (λ (x : Verdict). T (isPass x)) (sym e) tt
+
+pub isPass-out : (v : Verdict) → T (isPass v) → v ≡ passes
+unfolding isPass
+isPass-out passes t = refl
+isPass-out (fails a b c) t = absurd t
+isPass-out (refused r) t = absurd t
+
+-- what carry-on lets through
+pub record Start (kind : ℕ) (rows t out : List ℕ) (k : ℕ) : Type 0 where
+  pub valid : Accepts (openTests kind rows)
+  pub room : length rows ≤ length out
+  pub tie-break : IsFullOrdering (length rows) t
+  pub start : IsOrdering (length rows) out k
+  pub passing : judge (searchOf kind) (arcs rows) (length rows) out k ≡ passes
+
+module _ (kind : ℕ) (rows t out : List ℕ) (k : ℕ) where
+  n : ℕ
+  n = length rows
+
+  pub start-accepted : Start kind rows t out k → Accepts (carryOnTests kind rows t out k)
+  unfolding carryOnTests n
+  start-accepted x =
+      let fits = ordering-fits n (x .start) in
+      let full : length t ≡ n = x .tie-break .full in
+      both-accept (openTests kind rows) _ (x .valid) (
+        λ u. omega (arith, ltb→lt n k u),
+        (
+          λ u. let r : n ≤ length out = x .room in omega (arith, ltb→lt (length out) n u),
+          (
+            λ u. T-not (eqb (length t) n) u (subst (λ (m : ℕ). T (eqb (length t) m)) full (eqb-refl (length t))),
+            (
+              λ u. ⊎-elim (all-inside (x .start)) (all-inside (x .tie-break .ordering)) (or-out (vertexOutside n out k) (vertexOutside n t n) u),
+              (
+                λ u. ⊎-elim (none-repeated (x .start)) (none-repeated (x .tie-break .ordering)) (or-out (repeated out k) (repeated t n) u),
+                (λ u. T-not (isPass (judge (searchOf kind) (arcs rows) n out k)) u (isPass-in (judge (searchOf kind) (arcs rows) n out k) (x .passing)), tt),
+              ),
+            ),
+          ),
+        ),
+      )
+
+  pub accepted-start : Accepts (carryOnTests kind rows t out k) → Start kind rows t out k
+  unfolding carryOnTests n
+  accepted-start a =
+      let x = accepts-both (openTests kind rows) _ a in
+      let short : n ≤ length out = nltb→le (length out) n (not-T (ltb (length out) n) (x .1 .1 .0)) in
+      let fits : k ≤ n = nltb→le n k (not-T (ltb n k) (x .1 .0)) in
+      let full : length t ≡ n = eqb→eq (length t) n (not-not (eqb (length t) n) (not-T (not (eqb (length t) n)) (x .1 .1 .1 .0))) in
+      let inside : T (vertexOutside n out k || vertexOutside n t n) → ⊥ = x .1 .1 .1 .1 .0 in
+      let once : T (repeated out k || repeated t n) → ⊥ = x .1 .1 .1 .1 .1 .0 in
+      record {
+        valid = x .0;
+        room = short;
+        tie-break = record {
+          ordering = clear n t n (omega arith) (λ u. inside (or-inr (vertexOutside n out k) (vertexOutside n t n) u)) (λ u. once (or-inr (repeated out k) (repeated t n) u));
+          full = full;
+        };
+        start = clear n out k (omega arith) (λ u. inside (or-inl (vertexOutside n out k) (vertexOutside n t n) u)) (λ u. once (or-inl (repeated out k) (repeated t n) u));
+        passing = isPass-out (judge (searchOf kind) (arcs rows) n out k) (not-not (isPass (judge (searchOf kind) (arcs rows) n out k)) (not-T (not (isPass (judge (searchOf kind) (arcs rows) n out k))) (x .1 .1 .1 .1 .1 .1 .0)));
+      }
+
+  pub carryOn-done : Accepts (carryOnTests kind rows t out k)
+      → carryOnOutput kind rows t out k ≡ carryOn (searchOf kind) (arcs rows) (length rows) t out k ++ drop (length rows) out
+  unfolding carryOnOutput
+  carryOn-done a = rw (accepts-none (carryOnTests kind rows t out k) a, carryOnOutput)
+
+  pub carryOn-kept : (r : ℕ) → Refuses r (carryOnTests kind rows t out k) → carryOnOutput kind rows t out k ≡ out
+  unfolding carryOnOutput
+  carryOn-kept r x = rw (refuses-first (carryOnTests kind rows t out k) r x, carryOnOutput)

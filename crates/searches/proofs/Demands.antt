@@ -1,0 +1,129 @@
+-- The demands, over the definitions that the functions' promises cite. Each theorem's comment says which sentence it is; the work is done
+-- in the modules that the proofs cite. The graph is any relation `arc` on the vertices below n, which arcs both ways is a case of; the search is
+-- any of the six. Demand 1 is about memory and comes with the functions: here stands its half on the refusals.
+-- Assumes nothing.
+use mathlib.Core.Path.{_≡_}
+use mathlib.Core.Logic.{_↔_}
+use mathlib.Core.Bool.{Bool}
+use mathlib.Core.List.{List, [], _∷_, _++_, reverse}
+use mathlib.Core.Option.{some}
+use Prim.Native.Nat.{ℕ, suc, _≤_, _<_}
+use native.Mathlib.Omega.{arith}
+use lib.Dec.{T}
+use lib.ListN.{length, take}
+use Rattle.searches.specs.Kind.{Search, searchOf}
+use Rattle.searches.specs.Ordering.{arcs, placed, IsOrdering, IsFullOrdering}
+use Rattle.searches.specs.Run.{offered, Run, BeginsRun}
+use Rattle.searches.specs.Violation.{Violates, FirstViolation}
+use Rattle.searches.specs.Violation.{passes, fails, refused, Fails, judge}
+use Rattle.searches.specs.CarryOn.{carryOn, CarriedOn}
+use Rattle.searches.specs.Answer.{openTests, judgeTests, carryOnTests, Accepts, Refuses}
+use Rattle.searches.specs.Answer.{judgeAnswer, openAnswer, carryOnAnswer, carryOnOutput}
+use Rattle.searches.proofs.Ordering.{ordering-prefix, ordering-fits, length-grown}
+use Rattle.searches.proofs.Run.{Unreached, all-offered-first, restart-allowed, restart-only-then}
+use Rattle.searches.proofs.Judge.{passes-unviolated, unviolated-passes}
+use Rattle.searches.proofs.CarryOn.{passes-greedy, carryOn-carries, carriedOn-unique, passes-comes-back, comes-back-passes}
+use Rattle.searches.proofs.Passing as passing
+use Rattle.searches.proofs.Refusals.{refuses-first, first-refuses}
+use Rattle.searches.proofs.Answers as answers
+
+-- ---- Demand 1, the refusals
+
+-- each refusal in its stated case and no other: the answer is refusal r exactly when r's test holds and no earlier one does
+pub judge-refuses : (kind : ℕ) (rows w : List ℕ) (r : ℕ) → (judgeAnswer kind rows w ≡ refused r) ↔ Refuses r (judgeTests kind rows w)
+judge-refuses kind rows w r = (answers.refused-judge kind rows w r, answers.judge-refused kind rows w r)
+
+pub carryOn-refuses : (kind : ℕ) (rows t out : List ℕ) (k r : ℕ)
+    → (carryOnAnswer kind rows t out k ≡ some r) ↔ Refuses r (carryOnTests kind rows t out k)
+unfolding carryOnAnswer
+carryOn-refuses kind rows t out k r = (first-refuses (carryOnTests kind rows t out k) r, refuses-first (carryOnTests kind rows t out k) r)
+
+pub open-refuses : (kind : ℕ) (rows : List ℕ) (r : ℕ) → (openAnswer kind rows ≡ some r) ↔ Refuses r (openTests kind rows)
+unfolding openAnswer
+open-refuses kind rows r = (first-refuses (openTests kind rows) r, refuses-first (openTests kind rows) r)
+
+-- and then nothing is altered
+pub refused-keeps : (kind : ℕ) (rows t out : List ℕ) (k r : ℕ) → Refuses r (carryOnTests kind rows t out k) → carryOnOutput kind rows t out k ≡ out
+refused-keeps = answers.carryOn-kept
+
+-- where kind and plan are valid, judge's answer on a part of a walk is the verdict that the theorems below speak of
+pub part-judged : (kind : ℕ) (rows w : List ℕ) (k : ℕ) → Accepts (openTests kind rows) → IsOrdering (length rows) w k
+    → judgeAnswer kind rows (take k w) ≡ judge (searchOf kind) (arcs rows) (length rows) w k
+part-judged = answers.prefix-judged
+
+module _ (s : Search) (arc : ℕ → ℕ → Bool) (n : ℕ) where
+  -- ---- Demand 2
+
+  -- judge agrees with the search: a walk passes exactly when some run begins with it
+  pub judge-agrees : (w : List ℕ) (k : ℕ) → IsOrdering n w k → (judge s arc n w k ≡ passes) ↔ BeginsRun s arc n w k
+  judge-agrees w k o = (passing.passes-begins s arc n w k o, passing.begins-passes s arc n w k (o .long))
+
+  -- the offered points agree with it: after a walk that passes, a point is offered exactly when some run begins with the walk and that point
+  pub offered-agrees : (w : List ℕ) (v : ℕ) → IsOrdering n w (length w) → judge s arc n w (length w) ≡ passes
+      → T (offered s arc n w (length w) v) ↔ BeginsRun s arc n (w ++ v ∷ []) (suc (length w))
+  offered-agrees w v o p = (
+    λ t. let x = passing.offered-grows s arc n w v o p t in passing.passes-begins s arc n (w ++ v ∷ []) (suc (length w)) (x .0) (x .1),
+    λ b.
+        let l : suc (length w) ≤ length (w ++ v ∷ []) = omega (arith, length-grown w v) in
+        passing.grows-offered s arc n w v (passing.begins-ordering s arc n (w ++ v ∷ []) (suc (length w)) l b)
+        (passing.begins-passes s arc n (w ++ v ∷ []) (suc (length w)) l b),
+  )
+
+  -- the offered set is exactly the points with which the walk, grown by one, passes
+  pub offered-exactly : (w : List ℕ) (v : ℕ) → IsOrdering n w (length w) → judge s arc n w (length w) ≡ passes
+      → T (offered s arc n w (length w) v)
+      ↔ (IsOrdering n (w ++ v ∷ []) (suc (length w)) × (judge s arc n (w ++ v ∷ []) (suc (length w)) ≡ passes))
+  offered-exactly w v o p = (passing.offered-grows s arc n w v o p, λ x. passing.grows-offered s arc n w v (x .0) (x .1))
+
+  -- carried-on walks agree with it: what is carried on from a walk that passes is a run
+  pub carryOn-agrees : (t w : List ℕ) (k : ℕ) → IsFullOrdering n t → IsOrdering n w k → judge s arc n w k ≡ passes → Run s arc n (carryOn s arc n t w k)
+  carryOn-agrees t w k names o p =
+      let x = carryOn-carries s arc n t names w k (o .long) (ordering-fits n o) (passes-greedy s arc n w k o p) in
+      passing.passes-run s arc n (carryOn s arc n t w k) (x .full) (x .passing)
+
+  -- restarts included: with nothing placed all are offered,
+  pub start-anywhere : (w : List ℕ) (v : ℕ) → v < n → T (offered s arc n w 0 v)
+  start-anywhere = all-offered-first s arc n
+
+  -- and a new piece starts anywhere, but only when no unplaced point has a placed neighbour
+  pub restart : (w : List ℕ) (k v : ℕ) → v < n → (T (placed w k v) → ⊥) → Unreached s arc n w k v
+      → T (offered s arc n w k v) ↔ ((u : ℕ) → u < n → (T (placed w k u) → ⊥) → Unreached s arc n w k u)
+  restart w k v l out none = (restart-only-then s arc n w k v none, restart-allowed s arc n w k v l out)
+
+  -- a full walk passes exactly when carrying on from nothing, with that walk reversed as preference list, gives it again
+  pub comes-back : (w : List ℕ) → IsFullOrdering n w → (judge s arc n w n ≡ passes) ↔ (carryOn s arc n (reverse w) [] 0 ≡ w)
+  comes-back w f = (passes-comes-back n w f s arc, comes-back-passes n w f s arc)
+
+  -- ---- Demand 3, for every walk of distinct points and every cut m of it
+
+  module _ (w : List ℕ) (k : ℕ) (o : IsOrdering n w k) (m : ℕ) (cut : m ≤ k) where
+    -- judge passes the part exactly when some run of the search begins with it,
+    pub passes-as-run : (judge s arc n w m ≡ passes) ↔ BeginsRun s arc n w m
+    passes-as-run = judge-agrees w m (ordering-prefix n m cut o)
+
+    -- and exactly when with only that part placed no three points stand in the fault relation
+    pub passes-unfaulted : (judge s arc n w m ≡ passes) ↔ ((i j c : ℕ) → Violates s arc n w m i j c → ⊥)
+    passes-unfaulted = (passes-unviolated s arc n w m (ordering-prefix n m cut o), unviolated-passes s arc n w m (ordering-prefix n m cut o))
+
+    -- a passed part is carried on, whatever the preference list, to a walk of all points that begins with it, passes, and has at each added
+    -- place the offered point that stands last in the list
+    pub carried-on : (t : List ℕ) → IsFullOrdering n t → judge s arc n w m ≡ passes → CarriedOn s arc n t w m (carryOn s arc n t w m)
+    carried-on t names p =
+        let part = ordering-prefix n m cut o in
+        carryOn-carries s arc n t names w m (part .long) (ordering-fits n part) (passes-greedy s arc n w m part p)
+
+    -- and no other walk is such
+    pub carried-on-alone : (t r r′ : List ℕ) → CarriedOn s arc n t w m r → CarriedOn s arc n t w m r′ → r ≡ r′
+    carried-on-alone t r r′ = carriedOn-unique s arc n t w r r′ m (ordering-prefix n m cut o .long)
+
+    -- a failed one is shown its first fault triple, all others come after it
+    pub shown-first : (a b c : ℕ) → judge s arc n w m ≡ fails a b c → FirstViolation s arc n w m a b c
+    shown-first a b c = passing.fails-first s arc n w m a b c (ordering-prefix n m cut o)
+
+    -- cut just before its middle point it passes,
+    pub passes-before : {a b c : ℕ} (f : FirstViolation s arc n w m a b c) → judge s arc n w (f .j) ≡ passes
+    passes-before {a} {b} {c} = passing.cut-before-passes s arc n w m a b c (ordering-prefix n m cut o)
+
+    -- cut anywhere further on it fails
+    pub fails-after : {a b c : ℕ} (f : FirstViolation s arc n w m a b c) (l : ℕ) → f .j < l → l ≤ m → Fails (judge s arc n w l)
+    fails-after {a} {b} {c} = passing.cut-after-fails s arc n w m a b c (ordering-prefix n m cut o)

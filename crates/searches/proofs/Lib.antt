@@ -1,0 +1,13 @@
+pub mod Reason
+pub mod StrictOrder
+pub mod Maximal
+pub mod Ordering
+pub mod Run
+pub mod Violations
+pub mod Judge
+pub mod CarryOn
+pub mod Passing
+pub mod Refusals
+pub mod Answers
+pub mod Examples
+pub mod Demands

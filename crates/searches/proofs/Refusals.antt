@@ -1,0 +1,149 @@
+-- Refusals: each is given exactly in its stated case.
+--   refuses-first, first-refuses, accepts-none, none-accepts   the answer is the first test that holds
+--   bitOutside-*, selfLoop-*, oneWay-*, vertexOutside-*, repeated-*   what the tests mean
+--   judge-order, carryOn-order, open-order                     the numbers in the order in which they are tried
+-- Assumes nothing.
+use mathlib.Core.Path.{_≡_, refl, ap, subst}
+use mathlib.Core.Logic.{_⊎_, inl, inr}
+use mathlib.Core.Bool.{Bool, true, false, cond, not, _&&_}
+use mathlib.Core.List.{List, [], _∷_, map}
+use mathlib.Core.Option.{none, some}
+use Prim.Native.Nat.{ℕ, _≤_, _<_}
+use native.Mathlib.Omega.{arith}
+use lib.Dec.{T, leb, eqb, leb→le, le→leb, eqb→eq, eqb-refl, not-T, T-not}
+use lib.ListN.{length}
+use Rattle.bitset.specs.Below.{anyBelow}
+use Rattle.bitset.proofs.Tests.{and-in, and-out, decided}
+use Rattle.bitset.proofs.Below.{any-out, any-at}
+use Rattle.searches.specs.Ordering.{arcs, at}
+use Rattle.searches.specs.Answer.{bitOutside, selfLoop, oneWay, vertexOutside, repeated}
+use Rattle.searches.specs.Answer.{openTests, judgeTests, carryOnTests, firstRefusal, Accepts, Refuses}
+
+-- ---- the first test that holds
+
+pub refuses-first : (tests : List (ℕ × Bool)) (r : ℕ) → Refuses r tests → firstRefusal tests ≡ some r
+unfolding firstRefusal
+refuses-first [] r x = absurd x
+refuses-first (test ∷ tests) r x = go (test .1) x (refuses-first tests r)
+  where
+    go : (b : Bool) → ((test .0 ≡ r) × T b) ⊎ ((T b → ⊥) × Refuses r tests) → (Refuses r tests → firstRefusal tests ≡ some r)
+        → cond b (some (test .0)) (firstRefusal tests) ≡ some r
+    go true (inl x) rest = ap some (x .0)
+    go true (inr x) rest = absurd (x .0 tt)
+    go false (inl x) rest = absurd (x .1)
+    go false (inr x) rest = rest (x .1)
+
+pub accepts-none : (tests : List (ℕ × Bool)) → Accepts tests → firstRefusal tests ≡ none
+unfolding firstRefusal
+accepts-none [] x = refl
+accepts-none (test ∷ tests) x = go (test .1) (x .0) (accepts-none tests (x .1))
+  where
+    go : (b : Bool) → (T b → ⊥) → firstRefusal tests ≡ none → cond b (some (test .0)) (firstRefusal tests) ≡ none
+    go true out rest = absurd (out tt)
+    go false out rest = rest
+
+-- one of the two holds of every list of tests
+pub accepts-or-refuses : (tests : List (ℕ × Bool)) → Accepts tests ⊎ ((r : ℕ) × Refuses r tests)
+accepts-or-refuses [] = inl tt
+accepts-or-refuses (test ∷ tests) = go (decided (test .1)) (accepts-or-refuses tests)
+  where
+    go : T (test .1) ⊎ (T (test .1) → ⊥) → Accepts tests ⊎ ((r : ℕ) × Refuses r tests) → Accepts (test ∷ tests) ⊎ ((r : ℕ) × Refuses r (test ∷ tests))
+    go (inl t) rest = inr (test .0, inl (refl, t))
+    go (inr out) (inl a) = inl (out, a)
+    go (inr out) (inr x) = inr (x .0, inr (out, x .1))
+
+pub first-refuses : (tests : List (ℕ × Bool)) (r : ℕ) → firstRefusal tests ≡ some r → Refuses r tests
+first-refuses tests r e = go (accepts-or-refuses tests)
+  where
+    go : Accepts tests ⊎ ((q : ℕ) × Refuses q tests) → Refuses r tests
+    go (inl a) = let clash : _≡_ {A = ℕ} 0 1 = cc (accepts-none tests a) in absurd (omega arith)
+    go (inr x) = let same : x .0 ≡ r = cc (refuses-first tests (x .0) (x .1)) in subst (λ (q : ℕ). Refuses q tests) same (x .1)
+
+pub none-accepts : (tests : List (ℕ × Bool)) → firstRefusal tests ≡ none → Accepts tests
+none-accepts tests e = go (accepts-or-refuses tests)
+  where
+    go : Accepts tests ⊎ ((q : ℕ) × Refuses q tests) → Accepts tests
+    go (inl a) = a
+    go (inr x) = let clash : _≡_ {A = ℕ} 0 1 = cc (refuses-first tests (x .0) (x .1)) in absurd (omega arith)
+
+-- ---- the order in which the numbers are tried
+
+numbers : List (ℕ × Bool) → List ℕ
+numbers tests = map (λ (test : ℕ × Bool). test .0) tests
+
+-- open checks 1 to 5
+open-order : (kind : ℕ) (rows : List ℕ) → numbers (openTests kind rows) ≡ 1 ∷ 2 ∷ 3 ∷ 4 ∷ 5 ∷ []
+unfolding numbers openTests
+open-order kind rows = refl
+
+-- judge checks 1 to 6, 8, 9
+judge-order : (kind : ℕ) (rows w : List ℕ) → numbers (judgeTests kind rows w) ≡ 1 ∷ 2 ∷ 3 ∷ 4 ∷ 5 ∷ 6 ∷ 8 ∷ 9 ∷ []
+unfolding numbers openTests judgeTests
+judge-order kind rows w = refl
+
+-- carry-on checks 1 to 6, 10, 7, then 8, 9, then 12
+carryOn-order : (kind : ℕ) (rows t out : List ℕ) (k : ℕ)
+    → numbers (carryOnTests kind rows t out k) ≡ 1 ∷ 2 ∷ 3 ∷ 4 ∷ 5 ∷ 6 ∷ 10 ∷ 7 ∷ 8 ∷ 9 ∷ 12 ∷ []
+unfolding numbers openTests carryOnTests
+carryOn-order kind rows t out k = refl
+
+-- ---- what the tests mean
+
+module _ (rows : List ℕ) where
+  pub bitOutside-out : T (bitOutside rows) → (u : ℕ) × (v : ℕ) × (u < length rows) × (v < 64) × (length rows ≤ v) × T (arcs rows u v)
+  unfolding bitOutside
+  bitOutside-out t =
+      let x = any-out (length rows) (λ u. anyBelow 64 (λ v. leb (length rows) v && arcs rows u v)) t in
+      let y = any-out 64 (λ v. leb (length rows) v && arcs rows (x .at) v) (x .holds) in
+      let both = and-out (leb (length rows) (y .at)) (arcs rows (x .at) (y .at)) (y .holds) in
+      (x .at, y .at, x .below, y .below, leb→le (length rows) (y .at) (both .0), both .1)
+
+  pub bitOutside-in : (u v : ℕ) → u < length rows → v < 64 → length rows ≤ v → T (arcs rows u v) → T (bitOutside rows)
+  unfolding bitOutside
+  bitOutside-in u v l h g t =
+      any-at (length rows) (λ u. anyBelow 64 (λ v. leb (length rows) v && arcs rows u v)) u l
+      (any-at 64 (λ v. leb (length rows) v && arcs rows u v) v h (and-in (leb (length rows) v) (arcs rows u v) (le→leb (length rows) v g) t))
+
+  pub selfLoop-out : T (selfLoop rows) → (u : ℕ) × (u < length rows) × T (arcs rows u u)
+  unfolding selfLoop
+  selfLoop-out t = let x = any-out (length rows) (λ u. arcs rows u u) t in (x .at, x .below, x .holds)
+
+  pub selfLoop-in : (u : ℕ) → u < length rows → T (arcs rows u u) → T (selfLoop rows)
+  unfolding selfLoop
+  selfLoop-in u l t = any-at (length rows) (λ u. arcs rows u u) u l t
+
+  pub oneWay-out : T (oneWay rows) → (u : ℕ) × (v : ℕ) × (u < length rows) × (v < length rows) × T (arcs rows u v) × (T (arcs rows v u) → ⊥)
+  unfolding oneWay
+  oneWay-out t =
+      let x = any-out (length rows) (λ u. anyBelow (length rows) (λ v. arcs rows u v && not (arcs rows v u))) t in
+      let y = any-out (length rows) (λ v. arcs rows (x .at) v && not (arcs rows v (x .at))) (x .holds) in
+      let both = and-out (arcs rows (x .at) (y .at)) (not (arcs rows (y .at) (x .at))) (y .holds) in
+      (x .at, y .at, x .below, y .below, both .0, T-not (arcs rows (y .at) (x .at)) (both .1))
+
+  pub oneWay-in : (u v : ℕ) → u < length rows → v < length rows → T (arcs rows u v) → (T (arcs rows v u) → ⊥) → T (oneWay rows)
+  unfolding oneWay
+  oneWay-in u v l h t out =
+      any-at (length rows) (λ u. anyBelow (length rows) (λ v. arcs rows u v && not (arcs rows v u))) u l
+      (any-at (length rows) (λ v. arcs rows u v && not (arcs rows v u)) v h (and-in (arcs rows u v) (not (arcs rows v u)) t (not-T (arcs rows v u) out)))
+
+module _ (w : List ℕ) (k : ℕ) where
+  pub vertexOutside-out : (n : ℕ) → T (vertexOutside n w k) → (p : ℕ) × (p < k) × (n ≤ at w p)
+  unfolding vertexOutside
+  vertexOutside-out n t = let x = any-out k (λ p. leb n (at w p)) t in (x .at, x .below, leb→le n (at w (x .at)) (x .holds))
+
+  pub vertexOutside-in : (n p : ℕ) → p < k → n ≤ at w p → T (vertexOutside n w k)
+  unfolding vertexOutside
+  vertexOutside-in n p l h = any-at k (λ p. leb n (at w p)) p l (le→leb n (at w p) h)
+
+  pub repeated-out : T (repeated w k) → (p : ℕ) × (q : ℕ) × (p < q) × (q < k) × (at w p ≡ at w q)
+  unfolding repeated
+  repeated-out t =
+      let y = any-out k (λ q. anyBelow q (λ p. eqb (at w p) (at w q))) t in
+      let x = any-out (y .at) (λ p. eqb (at w p) (at w (y .at))) (y .holds) in
+      (x .at, y .at, x .below, y .below, eqb→eq (at w (x .at)) (at w (y .at)) (x .holds))
+
+  pub repeated-in : (p q : ℕ) → p < q → q < k → at w p ≡ at w q → T (repeated w k)
+  unfolding repeated
+  repeated-in p q l h e =
+      any-at k (λ q. anyBelow q (λ p. eqb (at w p) (at w q))) q h
+      (any-at q (λ p. eqb (at w p) (at w q)) p l (subst (λ (x : ℕ). T (eqb (at w p) x)) e (eqb-refl (at w p))))

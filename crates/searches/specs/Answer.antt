@@ -1,0 +1,136 @@
+-- What the calls answer, for every input: refusals first. The functions' promises are equations with these.
+--   bitOutside, selfLoop, oneWay rows    a bit at or above n in some row; a vertex linked to itself; a link in one row only
+--   vertexOutside n w k, repeated w k    one of the first k entries of w is n or more; one stands there twice
+--   openTests, judgeTests, carryOnTests  what the calls refuse: each number with its test, in 01's order    [01: refusals]
+--   firstRefusal tests                   the number of the first test that holds
+--   Accepts tests, Refuses r tests       no test holds; the first test that holds has number r
+--   judgeAnswer, openAnswer, carryOnAnswer   what is answered                                               [01: the calls]
+--   carryOnOutput kind rows t out k      what the output list then holds
+--   number, verdictOf, refusalOf         a refusal, a judgement and an outcome of the code as 01's number and values
+use Prim.Native.Nat.{ℕ}
+use mathlib.Core.Path.{_≡_}
+use mathlib.Core.Logic.{_⊎_}
+use mathlib.Core.Bool.{Bool, true, false, cond, not, _&&_, _||_}
+use mathlib.Core.List.{List, [], _∷_, _++_}
+use mathlib.Core.Option.{Option, none, some}
+use lib.Dec.{T, ltb, leb, eqb}
+use lib.ListN.{length, drop}
+use Rattle.bitset.specs.Below.{anyBelow}
+use Rattle.searches.specs.Kind.{searchOf}
+use Rattle.searches.specs.Ordering.{arcs, at}
+use Rattle.searches.specs.Violation.{Verdict, passes, fails, refused, judge}
+use Rattle.searches.specs.CarryOn.{carryOn}
+use Rattle.searches.specs.declared.Refusal.{Refusal}
+use Rattle.searches.specs.declared.Judgement.{Judgement}
+use Rattle.searches.specs.declared.Outcome.{Outcome}
+
+unfoldable pub bitOutside : List ℕ → Bool
+bitOutside rows = anyBelow (length rows) (λ u. anyBelow 64 (λ v. leb (length rows) v && arcs rows u v))
+
+unfoldable pub selfLoop : List ℕ → Bool
+selfLoop rows = anyBelow (length rows) (λ u. arcs rows u u)
+
+unfoldable pub oneWay : List ℕ → Bool
+oneWay rows = anyBelow (length rows) (λ u. anyBelow (length rows) (λ v. arcs rows u v && not (arcs rows v u)))
+
+unfoldable pub vertexOutside : ℕ → List ℕ → ℕ → Bool
+vertexOutside n w k = anyBelow k (λ p. leb n (at w p))
+
+unfoldable pub repeated : List ℕ → ℕ → Bool
+repeated w k = anyBelow k (λ q. anyBelow q (λ p. eqb (at w p) (at w q)))
+
+unfoldable pub isPass : Verdict → Bool
+isPass passes = true
+isPass (fails a b c) = false
+isPass (refused r) = false
+
+unfoldable pub openTests : ℕ → List ℕ → List (ℕ × Bool)
+openTests kind rows =
+    (1, ltb 5 kind)
+    ∷ (2, ltb 64 (length rows))
+    ∷ (3, bitOutside rows)
+    ∷ (4, selfLoop rows)
+    ∷ (5, oneWay rows)
+    ∷ []
+
+unfoldable pub judgeTests : ℕ → List ℕ → List ℕ → List (ℕ × Bool)
+judgeTests kind rows w =
+    openTests kind rows
+    ++ (6, ltb (length rows) (length w))
+    ∷ (8, vertexOutside (length rows) w (length w))
+    ∷ (9, repeated w (length w))
+    ∷ []
+
+unfoldable pub carryOnTests : ℕ → List ℕ → List ℕ → List ℕ → ℕ → List (ℕ × Bool)
+carryOnTests kind rows t out k =
+    let n = length rows in
+    openTests kind rows
+    ++ (6, ltb n k)
+    ∷ (10, ltb (length out) n)
+    ∷ (7, not (eqb (length t) n))
+    ∷ (8, vertexOutside n out k || vertexOutside n t n)
+    ∷ (9, repeated out k || repeated t n)
+    ∷ (12, not (isPass (judge (searchOf kind) (arcs rows) n out k)))
+    ∷ []
+
+unfoldable pub firstRefusal : List (ℕ × Bool) → Option ℕ
+firstRefusal [] = none
+firstRefusal (test ∷ tests) = let later = firstRefusal tests in cond (test .1) (some (test .0)) later
+
+abbrev pub Accepts : List (ℕ × Bool) → Type 0
+Accepts [] = Unit {0}
+Accepts (test ∷ tests) = (T (test .1) → ⊥) × Accepts tests
+
+abbrev pub Refuses : ℕ → List (ℕ × Bool) → Type 0
+Refuses r [] = ⊥
+Refuses r (test ∷ tests) = ((test .0 ≡ r) × T (test .1)) ⊎ ((T (test .1) → ⊥) × Refuses r tests)
+
+unfoldable pub judgeAnswer : ℕ → List ℕ → List ℕ → Verdict
+judgeAnswer kind rows w =
+    elim (firstRefusal (judgeTests kind rows w)) [
+      | none ↦ judge (searchOf kind) (arcs rows) (length rows) w (length w)
+      | some r ↦ refused r
+    ]
+
+unfoldable pub openAnswer : ℕ → List ℕ → Option ℕ
+openAnswer kind rows = firstRefusal (openTests kind rows)
+
+module _ (kind : ℕ) (rows t out : List ℕ) (k : ℕ) where
+  unfoldable pub carryOnAnswer : Option ℕ
+  carryOnAnswer = firstRefusal (carryOnTests kind rows t out k)
+
+  -- on success the carried-on ordering, and behind it the bytes that stood there; on refusal what it was
+  unfoldable pub carryOnOutput : List ℕ
+  carryOnOutput =
+      elim (firstRefusal (carryOnTests kind rows t out k)) [
+        | none ↦ carryOn (searchOf kind) (arcs rows) (length rows) t out k ++ drop (length rows) out
+        | some r ↦ out
+      ]
+
+unfoldable pub number : Refusal → ℕ
+number Refusal.UnknownKind = 1
+number Refusal.TooManyVertices = 2
+number Refusal.ArcOutOfRange = 3
+number Refusal.SelfLoop = 4
+number Refusal.OneWayArc = 5
+number Refusal.OrderingTooLong = 6
+number Refusal.TieBreakLength = 7
+number Refusal.VertexOutOfRange = 8
+number Refusal.RepeatedVertex = 9
+number Refusal.OutputTooShort = 10
+number Refusal.MalformedSheet = 11
+number Refusal.StartFails = 12
+number Refusal.MalformedTraversal = 13
+number Refusal.AllPlaced = 14
+number Refusal.AlreadyPlaced = 15
+number Refusal.NotOffered = 16
+number Refusal.NothingToTakeBack = 17
+
+unfoldable pub verdictOf : Judgement → Verdict
+verdictOf Judgement.Passes = passes
+verdictOf (Judgement.Fails v) = fails (v .a .0) (v .b .0) (v .c .0)
+verdictOf (Judgement.Refused r) = refused (number r)
+
+unfoldable pub refusalOf : Outcome → Option ℕ
+refusalOf Outcome.Done = none
+refusalOf (Outcome.Refused r) = some (number r)

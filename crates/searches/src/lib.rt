@@ -1,0 +1,85 @@
+// The vocabulary of the project: vertices and positions, the kinds of search, and the answers.
+// The definitions that give these their meaning are in specs/, the theorems in proofs/.
+
+// A vertex of a graph (01: point).
+pub struct Vertex(pub u8);
+
+// A position in an ordering, counted from 0 (01: place). Only a look-up in the ordering turns a position
+// into the vertex that stands there.
+pub struct Position(pub u8);
+
+// Which of the searches is meant (01: kind). Bytes without a constant here name none and are refused.
+pub struct Kind(pub u8);
+
+impl Kind {
+    pub const GENERIC: Kind = Kind(0);
+
+    pub const BFS: Kind = Kind(1);
+
+    pub const DFS: Kind = Kind(2);
+
+    pub const LEX_BFS: Kind = Kind(3);
+
+    pub const LEX_DFS: Kind = Kind(4);
+
+    pub const MNS: Kind = Kind(5);
+}
+
+// Three vertices that show where an ordering leaves its search (01: fault triple a, b, c): `b` was placed
+// although the earlier `a` leads to `c`, and not to `b`, and nothing excuses it.
+pub struct Violation {
+    pub a: Vertex,
+    pub b: Vertex,
+    pub c: Vertex,
+}
+
+// Why a call is refused. The comment of each is its number in 01.
+pub enum Refusal {
+    // 1
+    UnknownKind,
+    // 2
+    TooManyVertices,
+    // 3
+    ArcOutOfRange,
+    // 4
+    SelfLoop,
+    // 5
+    OneWayArc,
+    // 6
+    OrderingTooLong,
+    // 7
+    TieBreakLength,
+    // 8
+    VertexOutOfRange,
+    // 9
+    RepeatedVertex,
+    // 10
+    OutputTooShort,
+    // 11
+    MalformedSheet,
+    // 12
+    StartFails,
+    // 13
+    MalformedTraversal,
+    // 14
+    AllPlaced,
+    // 15
+    AlreadyPlaced,
+    // 16
+    NotOffered,
+    // 17
+    NothingToTakeBack,
+}
+
+// What judging an ordering answers.
+pub enum Judgement {
+    Passes,
+    Fails(Violation),
+    Refused(Refusal),
+}
+
+// What a call answers that hands its result over elsewhere, as carry-on does in the output list.
+pub enum Outcome {
+    Done,
+    Refused(Refusal),
+}
