@@ -11,7 +11,7 @@ use Prim.Native.Nat.{ℕ, zero, suc, _≤_, _<_}
 use native.Mathlib.Omega.{arith}
 use lib.Dec.{T, ltb, ltb→lt, nltb→le, not-T}
 use Rattle.bitset.specs.Below.{anyBelow, allBelow, firstBelow, lastBelow}
-use Rattle.bitset.proofs.Tests.{and-in, and-out, or-inl, or-inr, or-out, not-not, decided, is-false, below-or, below-suc, three-ways}
+use Rattle.bitset.proofs.Tests.{and-in, and-out, or-inl, or-inr, or-out, not-not, decided, same-test, is-false, below-or, below-suc, three-ways}
 
 pub record Some (n : ℕ) (f : ℕ → Bool) : Type 0 where
   pub at : ℕ
@@ -67,6 +67,18 @@ pub any-same : (n : ℕ) (f g : ℕ → Bool) → ((i : ℕ) → i < n → f i �
 unfolding anyBelow
 any-same zero f g e = refl
 any-same (suc n) f g e = ap₂ (λ (a b : Bool). a || b) (e n (omega arith)) (any-same n f g (λ i l. e i (omega arith)))
+
+-- a test that holds only below j is searched for below j
+pub any-fewer : (j m : ℕ) → j ≤ m → (f g : ℕ → Bool) → ((p : ℕ) → p < j → f p ≡ g p) → ((p : ℕ) → T (f p) → p < j) → anyBelow m f ≡ anyBelow j g
+any-fewer j m l f g same below =
+    same-test (anyBelow m f) (anyBelow j g)
+    (λ t.
+    let x = any-out m f t in
+    let h = below (x .at) (x .holds) in
+    any-at j g (x .at) h (subst (λ (b : Bool). T b) (same (x .at) h) (x .holds)))
+    (λ t.
+    let x = any-out j g t in
+    any-at m f (x .at) (omega (arith, x .below)) (subst (λ (b : Bool). T b) (sym (same (x .at) (x .below))) (x .holds)))
 
 -- ---- the first one
 
@@ -183,3 +195,8 @@ pub last-none : (n : ℕ) (f : ℕ → Bool) → ((i : ℕ) → i < n → T (f i
 unfolding lastBelow
 last-none zero f h = refl
 last-none (suc n) f h = ap (λ (b : Bool). cond b n (lastBelow n f)) (is-false (f n) (h n (omega arith))) ∙ last-none n f (λ i l. h i (omega arith))
+
+pub last-same : (n : ℕ) (f g : ℕ → Bool) → ((i : ℕ) → i < n → f i ≡ g i) → lastBelow n f ≡ lastBelow n g
+unfolding lastBelow
+last-same zero f g e = refl
+last-same (suc n) f g e = ap₂ (λ (b : Bool) (rest : ℕ). cond b n rest) (e n (omega arith)) (last-same n f g (λ i l. e i (omega arith)))

@@ -3,16 +3,19 @@
 --   not-not b                                  a test that does not fail holds
 --   decided b                                  a test holds or does not
 --   same-test                                  two tests that follow from each other are equal
+--   and-same, eqb-comm                         equal tests under `and`; two numbers compared either way round
 --   is-true, is-false                          what a test is worth
+--   not-true, not-false                        what the answer turned round says
+--   said-true, said-false                      what an answer that equals a test says of it
 --   cond-yes, cond-no                          what a choice by a test is worth
 --   below-or, below-suc, three-ways            two numbers are in one order or the other
 -- Assumes nothing.
-use mathlib.Core.Path.{_≡_, refl}
+use mathlib.Core.Path.{_≡_, refl, sym, _∙_, subst}
 use mathlib.Core.Bool.{Bool, true, false, cond, not, _&&_, _||_}
 use mathlib.Core.Logic.{_⊎_, inl, inr}
 use Prim.Native.Nat.{ℕ, suc, _≤_, _<_}
 use native.Mathlib.Omega.{arith}
-use lib.Dec.{T, ltb, not-T, ltb→lt, nltb→le}
+use lib.Dec.{T, ltb, eqb, not-T, ltb→lt, nltb→le, eqb→eq, eqb-refl}
 
 pub and-in : (a b : Bool) → T a → T b → T (a && b)
 and-in true b p q = q
@@ -52,6 +55,17 @@ same-test true false f g = absurd (f tt)
 same-test false true f g = absurd (g tt)
 same-test false false f g = refl
 
+-- where the first of two tests fails, the second does not matter
+pub and-same : (a b c : Bool) → (T a → b ≡ c) → (a && b) ≡ (a && c)
+and-same true b c e = e tt
+and-same false b c e = refl
+
+pub eqb-comm : (m n : ℕ) → eqb m n ≡ eqb n m
+eqb-comm m n = same-test (eqb m n) (eqb n m) (turn m n) (turn n m)
+  where
+    turn : (x y : ℕ) → T (eqb x y) → T (eqb y x)
+    turn x y t = subst (λ (z : ℕ). T (eqb z x)) (eqb→eq x y t) (eqb-refl x)
+
 pub is-true : (b : Bool) → T b → b ≡ true
 is-true true t = refl
 is-true false t = absurd t
@@ -59,6 +73,20 @@ is-true false t = absurd t
 pub is-false : (b : Bool) → (T b → ⊥) → b ≡ false
 is-false true f = absurd (f tt)
 is-false false f = refl
+
+pub not-true : (b : Bool) → not b ≡ true → b ≡ false
+not-true true e = sym e
+not-true false e = refl
+
+pub not-false : (b : Bool) → not b ≡ false → b ≡ true
+not-false true e = refl
+not-false false e = sym e
+
+pub said-true : {r : Bool} (t : Bool) → r ≡ t → r ≡ true → T t
+said-true t e y = subst (λ (b : Bool). T b) (sym y ∙ e) tt
+
+pub said-false : {r : Bool} (t : Bool) → r ≡ t → r ≡ false → T t → ⊥
+said-false t e n x = subst (λ (b : Bool). T b) (sym e ∙ n) x
 
 pub cond-yes : {A : Type 0} (b : Bool) (x y : A) → T b → cond b x y ≡ x
 cond-yes true x y t = refl

@@ -7,30 +7,31 @@
 --   member-zero, member-power                          the members of 0 and of 2 ^ e
 --   ones-digits, member-ones                           the digits and the members of 2 ^ n - 1
 --   one-shifted                                        what the machine makes of `1 << e`
---   member-inserted, member-removed, member-fullBelow  the members of the sets of specs/Word
---   inserted-word, removed-word, fullBelow-word        those sets are words of 64 bits
+--   member-inserted, member-removed, member-difference, member-fullBelow   the members of the sets of specs/Word
+--   inserted-word, removed-word, difference-word, fullBelow-word           those sets are words of 64 bits
 --   equal-members                                      words with the same members are equal
 --   empty, empty-back, some-member                     0 has no member, and no other word has none
 --   size-counts, trailing-first, leading-last          the machine's counts: how many members, the first and the last
+--   upper-leading                                      the least number above all members
 --   top-is-last                                        the highest set bit is the last member
 -- Assumes nothing.
 use mathlib.Core.Path.{_≡_, refl, sym, ap, ap₂, _∙_, subst}
 use mathlib.Core.Bool.{Bool, true, false, cond, not, _&&_, _||_, Bool·beq, or-comm}
 use mathlib.Core.Logic.{_⊎_, inl, inr}
 use Prim.Native.Nat.{ℕ, zero, suc, _+_, _-_, _*_, _/_, _%_, _^_, _≤_, _<_, min, max}
-use native.Mathlib.Nat.{one-mul, mod-eq-of-lt, div-one, mul-add-mod-self-right, pow-suc, mul-div-cancel, mul-mod-left, div-eq-of-lt, div-eq-of-lt-le, lt-of-lt-of-le, min-eq-left, min-le-right}
+use native.Mathlib.Nat.{one-mul, mod-eq-of-lt, div-one, mul-add-mod-self-right, pow-suc, mul-div-cancel, mul-mod-left, div-eq-of-lt, div-eq-of-lt-le, lt-of-lt-of-le, lt-of-le-of-lt, eq-zero-or-pos, min-eq-left, min-le-right}
 use native.Mathlib.Numerals.{one-add}
 use native.Mathlib.Omega.{arith}
 use lib.Dec.{T, ltb, eqb, ltb→lt, lt→ltb, eqb→eq, eqb·zero-suc, eqb·suc-zero, eqb·suc-suc, leb·suc-zero, leb·suc-suc, leb·zero}
 use lib.Arith.{lt-one}
 use lib.Pow.{shr-shr, pow-mono, pow-lt, pow-pos, ones-lt}
 use lib.Bits as bits
-use lib.Bits.{bitAnd, bitOr, bitXor, and-step, or-step, xor-step, and-shr, or-shr, xor-shr, or-lt, xor-lt}
-use lib.Count.{ones, ones-step, leadingZeros, leading-top, trailingZeros, under}
+use lib.Bits.{bitAnd, bitOr, bitXor, and-step, or-step, xor-step, and-shr, or-shr, xor-shr, or-lt, xor-lt, and-le-l}
+use lib.Count.{ones, ones-step, leadingZeros, leading-top, leading-of-zero, trailingZeros, under}
 use Rattle.bitset.specs.Below.{anyBelow, firstBelow, lastBelow, countBelow, differ}
-use Rattle.bitset.specs.Word.{member, inserted, removed, fullBelow}
+use Rattle.bitset.specs.Word.{member, inserted, removed, difference, fullBelow, upperBound}
 use Rattle.bitset.proofs.Tests.{is-true, is-false, decided, below-or}
-use Rattle.bitset.proofs.Below.{Some, any-out, any-at, first-same, first-bottom, IsLast, last-unique}
+use Rattle.bitset.proofs.Below.{Some, any-out, any-in, any-at, first-same, first-bottom, IsLast, last-unique}
 use Rattle.bitset.proofs.Count.{count-same, count-bottom}
 
 -- ---- the bits, one by one
@@ -141,6 +142,16 @@ member-removed x e p = go (member x e) refl (eqb e p) refl
     go false outside true same = at-e same ∙ outside
     go false outside false other = refl
 
+pub member-difference : (x y p : ℕ) → member (difference x y) p ≡ (member x p && not (member y p))
+unfolding difference differ
+member-difference x y p =
+    member-xor x (bitAnd x y) p ∙ ap (λ (d : Bool). not (Bool·beq (member x p) d)) (member-and x y p) ∙ go (member x p) (member y p)
+  where
+    go : (a b : Bool) → not (Bool·beq a (a && b)) ≡ (a && not b)
+    go true true = refl
+    go true false = refl
+    go false b = refl
+
 -- 2 ^ n - 1 has its n lowest bits set: the lowest, and the rest
 pub ones-digits : (n : ℕ) → ((2 ^ suc n - 1) % 2 ≡ 1) × ((2 ^ suc n - 1) / 2 ≡ 2 ^ n - 1)
 ones-digits n = omega (arith, pow-suc 2 n, pow-pos n)
@@ -172,6 +183,10 @@ removed-word {x} h e = go (member x e) (member-below 64 h e)
     go : (b : Bool) → (T b → e < 64) → cond b (bitXor x (2 ^ e)) x < 2 ^ 64
     go true l = xor-lt 64 x (2 ^ e) h (pow-lt (l tt))
     go false l = h
+
+pub difference-word : {x : ℕ} → x < 2 ^ 64 → (y : ℕ) → difference x y < 2 ^ 64
+unfolding difference
+difference-word {x} h y = xor-lt 64 x (bitAnd x y) h (lt-of-le-of-lt (and-le-l x y) h)
 
 pub fullBelow-word : (n : ℕ) → fullBelow n < 2 ^ 64
 unfolding fullBelow
@@ -238,3 +253,16 @@ pub leading-last : (k : ℕ) {x : ℕ} → 0 < x → x < 2 ^ k → leadingZeros 
 leading-last k {x} pos h =
     let top = leading-top k x pos h in
     ap (λ (m : ℕ). leadingZeros k x + suc m) (sym (last-unique (top-is-last k (top .0) (top .2) (top .3) (omega (arith, top .1))))) ∙ top .1
+
+pub upper-leading : {x : ℕ} → x < 2 ^ 64 → leadingZeros 64 x + upperBound x ≡ 64
+unfolding upperBound
+upper-leading {x} h = go (eq-zero-or-pos x)
+  where
+    go : (x ≡ 0) ⊎ (0 < x) → leadingZeros 64 x + cond (anyBelow 64 (member x)) (suc (lastBelow 64 (member x))) 0 ≡ 64
+    go (inl e) =
+        ap (λ (b : Bool). leadingZeros 64 x + cond b (suc (lastBelow 64 (member x))) 0)
+        (is-false (anyBelow 64 (member x)) (λ t. let s = any-out 64 (member x) t in empty-back e (s .at) (s .holds)))
+        ∙ ap (λ (y : ℕ). leadingZeros 64 y + 0) e ∙ ap (λ (y : ℕ). y + 0) (leading-of-zero 64)
+    go (inr pos) =
+        ap (λ (b : Bool). leadingZeros 64 x + cond b (suc (lastBelow 64 (member x))) 0) (is-true (anyBelow 64 (member x)) (any-in (some-member 64 h pos)))
+        ∙ leading-last 64 pos h

@@ -2,12 +2,15 @@
 --   member x p        p is in the set x: bit p of x is set
 --   inserted x p      the set x and p; x itself where p is 64 or more
 --   removed x p       the set x without p
+--   difference x y    the numbers of x that are not in y
 --   fullBelow n       the set of the numbers below n; of all 64 where n is more
 --   fromUp n x p      p is in the set x, and n or more
-use Prim.Native.Nat.{ℕ, _-_, _/_, _%_, _^_, min}
+--   upperBound x      the least number above all of x; 0 where x is empty
+use Prim.Native.Nat.{ℕ, suc, _-_, _/_, _%_, _^_, min}
 use mathlib.Core.Bool.{Bool, cond, _&&_}
 use lib.Dec.{eqb, ltb, leb}
-use lib.Bits.{bitOr, bitXor}
+use lib.Bits.{bitAnd, bitOr, bitXor}
+use Rattle.bitset.specs.Below.{anyBelow, lastBelow}
 
 unfoldable pub member : ℕ → ℕ → Bool
 member x p = eqb (x / 2 ^ p % 2) 1
@@ -18,8 +21,14 @@ inserted x p = cond (ltb p 64) (bitOr x (2 ^ p)) x
 unfoldable pub removed : ℕ → ℕ → ℕ
 removed x p = cond (member x p) (bitXor x (2 ^ p)) x
 
+unfoldable pub difference : ℕ → ℕ → ℕ
+difference x y = bitXor x (bitAnd x y)
+
 unfoldable pub fullBelow : ℕ → ℕ
 fullBelow n = 2 ^ min n 64 - 1
 
 unfoldable pub fromUp : ℕ → ℕ → ℕ → Bool
 fromUp n x p = leb n p && member x p
+
+unfoldable pub upperBound : ℕ → ℕ
+upperBound x = cond (anyBelow 64 (member x)) (suc (lastBelow 64 (member x))) 0

@@ -2,7 +2,7 @@
 ghost use mathlib.Core.Path.{_≡_};
 ghost use mathlib.Core.Bool.{_&&_};
 ghost use Rattle.bitset.specs.Below.{anyBelow, firstBelow, lastBelow, countBelow, differ, within};
-ghost use Rattle.bitset.specs.Word.{member, inserted, removed, fullBelow, fromUp};
+ghost use Rattle.bitset.specs.Word.{member, inserted, removed, difference, fullBelow, fromUp, upperBound};
 
 // Whether `element` is in the set; no number from 64 up is.
 pub fn contains(set: u64, element: usize) -> bool
@@ -37,6 +37,13 @@ pub fn remove(set: u64, element: usize) -> u64
     }
 }
 
+// The numbers of `a` that are not in `b`.
+pub fn without(a: u64, b: u64) -> u64
+    ensures { λ r. ⌜ r ≡ difference a b ⌝ }
+{
+    a ^ (a & b)
+}
+
 // The set of the numbers below `n`; of all 64 where `n` is more.
 pub fn full_below(n: usize) -> u64
     ensures { λ r. ⌜ r ≡ fullBelow n ⌝ }
@@ -58,15 +65,11 @@ pub fn smallest(set: u64) -> usize
     u64::trailing_zeros(set) as usize
 }
 
-// The largest number of the set; 0 where it is empty.
-pub fn largest(set: u64) -> usize
-    ensures { λ r. ⌜ r ≡ lastBelow 64 (member set) ⌝ }
+// The least number above all of the set: one more than its largest; 0 where it is empty.
+pub fn upper_bound(set: u64) -> usize
+    ensures { λ r. ⌜ r ≡ upperBound set ⌝ }
 {
-    if set == 0 {
-        0
-    } else {
-        63 - u64::leading_zeros(set) as usize
-    }
+    64 - u64::leading_zeros(set) as usize
 }
 
 // The smallest number that is in just one of the two sets; 64 where they are equal.

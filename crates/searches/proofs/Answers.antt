@@ -1,4 +1,5 @@
 -- What the calls answer where nothing is refused, and when that is.
+--   valid-small                      a valid graph has at most 64 vertices
 --   accepts-both, both-accept        tests one behind the other
 --   ordering-accepted, accepted-ordering   judge refuses no ordering of a valid graph, and nothing else passes its tests
 --   start-accepted, accepted-start         likewise for carry-on
@@ -20,7 +21,7 @@ use Rattle.searches.specs.Kind.{searchOf}
 use Rattle.searches.specs.Ordering.{arcs, at, IsOrdering, IsFullOrdering}
 use Rattle.searches.specs.Violation.{Verdict, passes, fails, refused, judge}
 use Rattle.searches.specs.CarryOn.{carryOn}
-use Rattle.searches.specs.Answer.{vertexOutside, repeated, isPass, openTests, judgeTests, carryOnTests, Accepts, Refuses}
+use Rattle.searches.specs.Answer.{vertexOutside, repeated, isPass, openTests, judgeTests, listTests, carryOnTests, Accepts, Refuses}
 use Rattle.searches.specs.Answer.{judgeAnswer, carryOnOutput}
 use Rattle.searches.proofs.Ordering.{take-agree, agree-sym, ordering-fits, ordering-agree}
 use Rattle.searches.proofs.Judge.{Judged, judge-says}
@@ -53,6 +54,11 @@ all-inside {n} {w} {k} o t = let x = vertexOutside-out w k n t in omega (arith, 
 
 none-repeated : {n : ℕ} {w : List ℕ} {k : ℕ} → IsOrdering n w k → T (repeated w k) → ⊥
 none-repeated {n} {w} {k} o t = let x = repeated-out w k t in o .distinct (x .0) (x .1) (x .2) (x .3) (x .4)
+
+-- no more than 64 rows are let through
+pub valid-small : (kind : ℕ) (rows : List ℕ) → Accepts (openTests kind rows) → length rows ≤ 64
+unfolding openTests
+valid-small kind rows a = nltb→le 64 (length rows) (not-T (ltb 64 (length rows)) (a .1 .0))
 
 -- ---- judge
 
@@ -127,12 +133,16 @@ module _ (kind : ℕ) (rows t out : List ℕ) (k : ℕ) where
   n : ℕ
   n = length rows
 
+  verdict : Verdict
+  verdict = judge (searchOf kind) (arcs rows) n out k
+
   pub start-accepted : Start kind rows t out k → Accepts (carryOnTests kind rows t out k)
-  unfolding carryOnTests n
+  unfolding carryOnTests listTests n verdict
   start-accepted x =
       let fits = ordering-fits n (x .start) in
       let full : length t ≡ n = x .tie-break .full in
-      both-accept (openTests kind rows) _ (x .valid) (
+      both-accept (listTests kind rows t out k) _
+      (both-accept (openTests kind rows) _ (x .valid) (
         λ u. omega (arith, ltb→lt n k u),
         (
           λ u. let r : n ≤ length out = x .room in omega (arith, ltb→lt (length out) n u),
@@ -140,33 +150,50 @@ module _ (kind : ℕ) (rows t out : List ℕ) (k : ℕ) where
             λ u. T-not (eqb (length t) n) u (subst (λ (m : ℕ). T (eqb (length t) m)) full (eqb-refl (length t))),
             (
               λ u. ⊎-elim (all-inside (x .start)) (all-inside (x .tie-break .ordering)) (or-out (vertexOutside n out k) (vertexOutside n t n) u),
-              (
-                λ u. ⊎-elim (none-repeated (x .start)) (none-repeated (x .tie-break .ordering)) (or-out (repeated out k) (repeated t n) u),
-                (λ u. T-not (isPass (judge (searchOf kind) (arcs rows) n out k)) u (isPass-in (judge (searchOf kind) (arcs rows) n out k) (x .passing)), tt),
-              ),
+              (λ u. ⊎-elim (none-repeated (x .start)) (none-repeated (x .tie-break .ordering)) (or-out (repeated out k) (repeated t n) u), tt),
             ),
           ),
         ),
-      )
+      ))
+      (λ u. T-not (isPass verdict) u (isPass-in verdict (x .passing)), tt)
 
-  pub accepted-start : Accepts (carryOnTests kind rows t out k) → Start kind rows t out k
-  unfolding carryOnTests n
-  accepted-start a =
+  -- what the tests on the lists let through
+  pub record Lists : Type 0 where
+    pub valid : Accepts (openTests kind rows)
+    pub room : length rows ≤ length out
+    pub tie-break : IsFullOrdering (length rows) t
+    pub start : IsOrdering (length rows) out k
+
+  pub accepted-lists : Accepts (listTests kind rows t out k) → Lists
+  unfolding listTests n
+  accepted-lists a =
       let x = accepts-both (openTests kind rows) _ a in
-      let short : n ≤ length out = nltb→le (length out) n (not-T (ltb (length out) n) (x .1 .1 .0)) in
       let fits : k ≤ n = nltb→le n k (not-T (ltb n k) (x .1 .0)) in
+      let room : n ≤ length out = nltb→le (length out) n (not-T (ltb (length out) n) (x .1 .1 .0)) in
       let full : length t ≡ n = eqb→eq (length t) n (not-not (eqb (length t) n) (not-T (not (eqb (length t) n)) (x .1 .1 .1 .0))) in
       let inside : T (vertexOutside n out k || vertexOutside n t n) → ⊥ = x .1 .1 .1 .1 .0 in
       let once : T (repeated out k || repeated t n) → ⊥ = x .1 .1 .1 .1 .1 .0 in
       record {
         valid = x .0;
-        room = short;
+        room = room;
         tie-break = record {
           ordering = clear n t n (omega arith) (λ u. inside (or-inr (vertexOutside n out k) (vertexOutside n t n) u)) (λ u. once (or-inr (repeated out k) (repeated t n) u));
           full = full;
         };
         start = clear n out k (omega arith) (λ u. inside (or-inl (vertexOutside n out k) (vertexOutside n t n) u)) (λ u. once (or-inl (repeated out k) (repeated t n) u));
-        passing = isPass-out (judge (searchOf kind) (arcs rows) n out k) (not-not (isPass (judge (searchOf kind) (arcs rows) n out k)) (not-T (not (isPass (judge (searchOf kind) (arcs rows) n out k))) (x .1 .1 .1 .1 .1 .1 .0)));
+      }
+
+  pub accepted-start : Accepts (carryOnTests kind rows t out k) → Start kind rows t out k
+  unfolding carryOnTests n verdict
+  accepted-start a =
+      let x = accepts-both (listTests kind rows t out k) _ a in
+      let l = accepted-lists (x .0) in
+      record {
+        valid = l .valid;
+        room = l .room;
+        tie-break = l .tie-break;
+        start = l .start;
+        passing = isPass-out verdict (not-not (isPass verdict) (not-T (not (isPass verdict)) (x .1 .0)));
       }
 
   pub carryOn-done : Accepts (carryOnTests kind rows t out k)

@@ -1,5 +1,5 @@
 -- Carrying on: a passed prefix grows to a full ordering that passes, and there is one such ordering for each tie-break.
---   choice-last                        the choice is offered and stands last
+--   choice-last, chosen-offered        the choice is offered and stands last
 --   carryOn-carries                    what carrying on a greedy prefix gives
 --   carriedOn-unique                   nothing else takes the last offered vertex everywhere
 --   passes-comes-back, comes-back-passes   a full ordering passes exactly when it comes back by its reverse
@@ -77,7 +77,7 @@ module _ (s : Search) (arc : ℕ → ℕ → Bool) (n : ℕ) where
             holds = subst (λ (v : ℕ). T (offered s arc n w k v)) (sym (p .2)) (u .holds);
           })
 
-      chosen-offered : (w : List ℕ) → IsOrdering n w (length w) → length w < n → T (offered s arc n w (length w) (choice s arc n t w (length w)))
+      pub chosen-offered : (w : List ℕ) → IsOrdering n w (length w) → length w < n → T (offered s arc n w (length w) (choice s arc n t w (length w)))
       unfolding choice standing
       chosen-offered w o l = choice-last w (length w) o l .holds
 
@@ -203,7 +203,7 @@ module _ (n : ℕ) (w : List ℕ) (all : IsFullOrdering n w) where
       let e : length w ≡ n = all .full in
       at-reverse w q (omega arith) ∙ ap (λ (m : ℕ). at w (m - suc q)) e
 
-  reverse-full : IsFullOrdering n (reverse w)
+  pub reverse-full : IsFullOrdering n (reverse w)
   reverse-full =
       let e : length (reverse w) ≡ n = length-reverse w ∙ all .full in
       record {

@@ -1,16 +1,18 @@
--- The demands, over the definitions that the functions' promises cite. Each theorem's comment says which sentence it is; the work is done
--- in the modules that the proofs cite. The graph is any relation `arc` on the vertices below n, which arcs both ways is a case of; the search is
--- any of the six. Demand 1 is about memory and comes with the functions: here stands its half on the refusals.
+-- The three demands, over the definitions that the functions' promises cite. Each theorem's comment says which sentence it is; the work is
+-- done in the modules that the proofs cite. Demand 1; then 2 and 3 for any graph, that is any relation `arc` on the vertices below n, of which a
+-- plan with links both ways is a case; then 2 and 3 as the calls answer on kind byte, rows and lists.
+-- A function's contract is an equation with `judgeAnswer`, `carryOnAnswer` or `carryOnOutput`; a list that a contract does not name at exit is
+-- lent as `&` and cannot change; that every call ends is part of every proof of a function.
 -- Assumes nothing.
-use mathlib.Core.Path.{_≡_}
+use mathlib.Core.Path.{_≡_, sym, _∙_}
 use mathlib.Core.Logic.{_↔_}
 use mathlib.Core.Bool.{Bool}
 use mathlib.Core.List.{List, [], _∷_, _++_, reverse}
-use mathlib.Core.Option.{some}
+use mathlib.Core.Option.{none, some}
 use Prim.Native.Nat.{ℕ, suc, _≤_, _<_}
 use native.Mathlib.Omega.{arith}
 use lib.Dec.{T}
-use lib.ListN.{length, take}
+use lib.ListN.{length, take, drop}
 use Rattle.searches.specs.Kind.{Search, searchOf}
 use Rattle.searches.specs.Ordering.{arcs, placed, IsOrdering, IsFullOrdering}
 use Rattle.searches.specs.Run.{offered, Run, BeginsRun}
@@ -26,8 +28,9 @@ use Rattle.searches.proofs.CarryOn.{passes-greedy, carryOn-carries, car
 use Rattle.searches.proofs.Passing as passing
 use Rattle.searches.proofs.Refusals.{refuses-first, first-refuses}
 use Rattle.searches.proofs.Answers as answers
+use Rattle.searches.proofs.Parts as parts
 
--- ---- Demand 1, the refusals
+-- ---- Demand 1: lent memory
 
 -- each refusal in its stated case and no other: the answer is refusal r exactly when r's test holds and no earlier one does
 pub judge-refuses : (kind : ℕ) (rows w : List ℕ) (r : ℕ) → (judgeAnswer kind rows w ≡ refused r) ↔ Refuses r (judgeTests kind rows w)
@@ -46,13 +49,16 @@ open-refuses kind rows r = (first-refuses (openTests kind rows) r, refuses-first
 pub refused-keeps : (kind : ℕ) (rows t out : List ℕ) (k r : ℕ) → Refuses r (carryOnTests kind rows t out k) → carryOnOutput kind rows t out k ≡ out
 refused-keeps = answers.carryOn-kept
 
--- where kind and plan are valid, judge's answer on a part of a walk is the verdict that the theorems below speak of
-pub part-judged : (kind : ℕ) (rows w : List ℕ) (k : ℕ) → Accepts (openTests kind rows) → IsOrdering (length rows) w k
-    → judgeAnswer kind rows (take k w) ≡ judge (searchOf kind) (arcs rows) (length rows) w k
-part-judged = answers.prefix-judged
+-- the output list only where a successful call fills it: for every input its first k bytes, its bytes from n on and its length stay
+pub output-stays : (kind : ℕ) (rows t out : List ℕ) (k : ℕ)
+    → (take k (carryOnOutput kind rows t out k) ≡ take k out) × (drop (length rows) (carryOnOutput kind rows t out k) ≡ drop (length rows) out)
+    × (length (carryOnOutput kind rows t out k) ≡ length out)
+output-stays = parts.output-kept
+
+-- ---- Demands 2 and 3 for any graph
 
 module _ (s : Search) (arc : ℕ → ℕ → Bool) (n : ℕ) where
-  -- ---- Demand 2
+  -- Demand 2
 
   -- judge agrees with the search: a walk passes exactly when some run begins with it
   pub judge-agrees : (w : List ℕ) (k : ℕ) → IsOrdering n w k → (judge s arc n w k ≡ passes) ↔ BeginsRun s arc n w k
@@ -88,13 +94,13 @@ module _ (s : Search) (arc : ℕ → ℕ → Bool) (n : ℕ) where
   -- and a new piece starts anywhere, but only when no unplaced point has a placed neighbour
   pub restart : (w : List ℕ) (k v : ℕ) → v < n → (T (placed w k v) → ⊥) → Unreached s arc n w k v
       → T (offered s arc n w k v) ↔ ((u : ℕ) → u < n → (T (placed w k u) → ⊥) → Unreached s arc n w k u)
-  restart w k v l out none = (restart-only-then s arc n w k v none, restart-allowed s arc n w k v l out)
+  restart w k v l out alone = (restart-only-then s arc n w k v alone, restart-allowed s arc n w k v l out)
 
   -- a full walk passes exactly when carrying on from nothing, with that walk reversed as preference list, gives it again
   pub comes-back : (w : List ℕ) → IsFullOrdering n w → (judge s arc n w n ≡ passes) ↔ (carryOn s arc n (reverse w) [] 0 ≡ w)
   comes-back w f = (passes-comes-back n w f s arc, comes-back-passes n w f s arc)
 
-  -- ---- Demand 3, for every walk of distinct points and every cut m of it
+  -- Demand 3, for every walk of distinct points and every cut m of it
 
   module _ (w : List ℕ) (k : ℕ) (o : IsOrdering n w k) (m : ℕ) (cut : m ≤ k) where
     -- judge passes the part exactly when some run of the search begins with it,
@@ -127,3 +133,59 @@ module _ (s : Search) (arc : ℕ → ℕ → Bool) (n : ℕ) where
     -- cut anywhere further on it fails
     pub fails-after : {a b c : ℕ} (f : FirstViolation s arc n w m a b c) (l : ℕ) → f .j < l → l ≤ m → Fails (judge s arc n w l)
     fails-after {a} {b} {c} = passing.cut-after-fails s arc n w m a b c (ordering-prefix n m cut o)
+
+-- ---- Demands 2 and 3, as the calls answer: for every valid kind and plan
+
+-- judge's answer on a part of a walk is the verdict that the theorems on any graph speak of
+pub part-judged : (kind : ℕ) (rows w : List ℕ) (k : ℕ) → Accepts (openTests kind rows) → IsOrdering (length rows) w k
+    → judgeAnswer kind rows (take k w) ≡ judge (searchOf kind) (arcs rows) (length rows) w k
+part-judged = answers.prefix-judged
+
+module _ (kind : ℕ) (rows : List ℕ) (valid : Accepts (openTests kind rows)) where
+  -- Demand 2: a full walk passes exactly when carrying on from nothing, with that walk reversed as preference list, gives it again
+  pub written-again : (w out : List ℕ) → IsFullOrdering (length rows) w → length rows ≤ length out
+      → (judgeAnswer kind rows w ≡ passes) ↔ (take (length rows) (carryOnOutput kind rows (reverse w) out 0) ≡ w)
+  written-again w out all room = (parts.passes-written-again kind rows valid w all out room, parts.written-again-passes kind rows valid w all out room)
+
+  -- Demand 3: for every walk of distinct points and every cut m of it,
+  module _ (w : List ℕ) (k : ℕ) (o : IsOrdering (length rows) w k) (m : ℕ) (cut : m ≤ k) where
+    answer : judgeAnswer kind rows (take m w) ≡ judge (searchOf kind) (arcs rows) (length rows) w m
+    answer = part-judged kind rows w m valid (ordering-prefix (length rows) m cut o)
+
+    -- judge passes the part exactly when some run of the search begins with it,
+    pub part-as-run : (judgeAnswer kind rows (take m w) ≡ passes) ↔ BeginsRun (searchOf kind) (arcs rows) (length rows) w m
+    part-as-run =
+        let i = passes-as-run (searchOf kind) (arcs rows) (length rows) w k o m cut in
+        (λ p. i .0 (sym answer ∙ p), λ b. answer ∙ i .1 b)
+
+    -- and exactly when with only that part placed no three points stand in the fault relation
+    pub part-unfaulted : (judgeAnswer kind rows (take m w) ≡ passes) ↔ ((i j c : ℕ) → Violates (searchOf kind) (arcs rows) (length rows) w m i j c → ⊥)
+    part-unfaulted =
+        let i = passes-unfaulted (searchOf kind) (arcs rows) (length rows) w k o m cut in
+        (λ p. i .0 (sym answer ∙ p), λ none. answer ∙ i .1 none)
+
+    -- a passed part, at the front of any output list with room, is carried on, whatever the preference list, and the first n bytes then hold a
+    -- walk of all points that begins with it, passes, and has at each added place the offered point that stands last in the list
+    pub part-carried-on : (t out : List ℕ) → IsFullOrdering (length rows) t → length rows ≤ length out → take m out ≡ take m w
+        → judgeAnswer kind rows (take m w) ≡ passes
+        → (carryOnAnswer kind rows t out m ≡ none)
+        × CarriedOn (searchOf kind) (arcs rows) (length rows) t w m (take (length rows) (carryOnOutput kind rows t out m))
+    part-carried-on t out names room front p =
+        parts.part-carried kind rows valid w m (ordering-prefix (length rows) m cut o) t out names room front (sym answer ∙ p)
+
+    -- a failed one is shown its first fault triple, all others come after it
+    pub part-shown-first : (a b c : ℕ) → judgeAnswer kind rows (take m w) ≡ fails a b c
+        → FirstViolation (searchOf kind) (arcs rows) (length rows) w m a b c
+    part-shown-first a b c e = shown-first (searchOf kind) (arcs rows) (length rows) w k o m cut a b c (sym answer ∙ e)
+
+  module _ (w : List ℕ) (k : ℕ) (o : IsOrdering (length rows) w k) (a b c : ℕ) (f : FirstViolation (searchOf kind) (arcs rows) (length rows) w k a b c) where
+    -- cut just before its middle point it passes,
+    pub part-passes-before : judgeAnswer kind rows (take (f .j) w) ≡ passes
+    part-passes-before =
+        answer w k o (f .j) (omega (arith, f .is .middle)) ∙ passes-before (searchOf kind) (arcs rows) (length rows) w k o k (omega arith) f
+
+    -- cut anywhere further on it fails
+    pub part-fails-after : (l : ℕ) → f .j < l → l ≤ k → Fails (judgeAnswer kind rows (take l w))
+    part-fails-after l h i =
+        let x = fails-after (searchOf kind) (arcs rows) (length rows) w k o k (omega arith) f l h i in
+        (x .0, x .1, x .2, answer w k o l i ∙ x .3)

@@ -19,7 +19,7 @@ use Rattle.searches.specs.Run.{offered}
 use Rattle.searches.specs.Violation.{excuses, violates}
 use Rattle.searches.specs.Violation.{Verdict, passes, fails, refused, third, isLast, isFirst, isMiddle, judge}
 use Rattle.searches.specs.CarryOn.{choice, grow, carryOn}
-use Rattle.searches.specs.Answer.{bitOutside, selfLoop, oneWay, vertexOutside, repeated, isPass, openTests, judgeTests, carryOnTests, firstRefusal}
+use Rattle.searches.specs.Answer.{bitOutside, selfLoop, oneWay, vertexOutside, repeated, isPass, openTests, judgeTests, listTests, carryOnTests, firstRefusal}
 use Rattle.searches.specs.Answer.{judgeAnswer, carryOnOutput}
 use Rattle.searches.proofs.Ordering.{upTo}
 
@@ -172,7 +172,7 @@ computed : T (right examples)
 unfolding right answered same answer numbers examples P C two-pieces everywhere pass fail rowsOf rowOf upTo
     anyBelow allBelow firstBelow lastBelow differ within member searchOf arcs placed label empty nearer settled outranks offered excuses violates
     third isLast isFirst isMiddle judge choice grow carryOn bitOutside selfLoop oneWay vertexOutside repeated isPass
-    openTests judgeTests carryOnTests firstRefusal judgeAnswer carryOnOutput
+    openTests judgeTests listTests carryOnTests firstRefusal judgeAnswer carryOnOutput
 computed = tt
 
 examples-right : Right examples

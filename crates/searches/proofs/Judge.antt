@@ -1,5 +1,6 @@
 -- Judging: the verdict is the first violation, or that there is none.
 --   third-rank, rank-third, rank-below, third-vertex   the candidates for c, and where each first stands among them
+--   middle-met                                         the middle of a violation is found
 --   Judged s arc n w k v                               what a verdict says; judge-says: that judge's verdict does
 --   passes-unviolated, unviolated-passes               passes exactly when there is no violation
 -- Assumes nothing.
@@ -77,11 +78,11 @@ module _ (w : List ℕ) (k : ℕ) where
       go (inr l) (inl t) = let r = rank-placed (third w k e) t .0 in omega arith
       go (inr l) (inr out) = let a = rank-unplaced (third w k e) out in let b = third-other e l in omega arith
 
-  third-vertex : {n : ℕ} → IsOrdering n w k → (e : ℕ) → e < k + n → third w k e < n
-  third-vertex {n} o e l = go (below-or e k)
+  pub third-vertex : (n : ℕ) → ((p : ℕ) → p < k → at w p < n) → (e : ℕ) → e < k + n → third w k e < n
+  third-vertex n vertices e l = go (below-or e k)
     where
       go : (e < k) ⊎ (k ≤ e) → third w k e < n
-      go (inl h) = subst (λ (v : ℕ). v < n) (sym (third-placed e h)) (o .vertices e h)
+      go (inl h) = subst (λ (v : ℕ). v < n) (sym (third-placed e h)) (vertices e h)
       go (inr h) = let b = third-other e h in omega arith
 
 -- ---- the first violation
@@ -111,7 +112,7 @@ module _ (s : Search) (arc : ℕ → ℕ → Bool) (n : ℕ) (w : List ℕ) (k :
   unfolding isFirst
   first-met {i} {j} {c} v = any-at (k + n) (last-at j i) (rank w k c) (rank-below w k n c (v .vertex)) (last-met v)
 
-  middle-met : {i j c : ℕ} → Violates s arc n w k i j c → T (middle-at j)
+  pub middle-met : {i j c : ℕ} → Violates s arc n w k i j c → T (middle-at j)
   unfolding isMiddle
   middle-met {i} {j} v = any-at j (first-at j) i (v .before) (first-met v)
 
@@ -159,7 +160,7 @@ module _ (s : Search) (arc : ℕ → ℕ → Bool) (n : ℕ) (w : List ℕ) (k :
     first-violation o before middle below t = record {
       i = i;
       j = j;
-      is = violates-out s arc w i j (third w k e) n k before middle (third-vertex w k o e below) t;
+      is = violates-out s arc w i j (third w k e) n k before middle (third-vertex w k n (o .vertices) e below) t;
       a-stands = refl;
       b-stands = refl;
       others-later = later-middle;

@@ -9,5 +9,6 @@ pub mod CarryOn
 pub mod Passing
 pub mod Refusals
 pub mod Answers
+pub mod Parts
 pub mod Examples
 pub mod Demands

@@ -17,7 +17,7 @@ use Rattle.bitset.proofs.Tests.{and-in, and-out, decided}
 use Rattle.bitset.proofs.Below.{any-out, any-at}
 use Rattle.searches.specs.Ordering.{arcs, at}
 use Rattle.searches.specs.Answer.{bitOutside, selfLoop, oneWay, vertexOutside, repeated}
-use Rattle.searches.specs.Answer.{openTests, judgeTests, carryOnTests, firstRefusal, Accepts, Refuses}
+use Rattle.searches.specs.Answer.{openTests, judgeTests, listTests, carryOnTests, firstRefusal, Accepts, Refuses}
 
 -- ---- the first test that holds
 
@@ -84,7 +84,7 @@ judge-order kind rows w = refl
 -- carry-on checks 1 to 6, 10, 7, then 8, 9, then 12
 carryOn-order : (kind : ℕ) (rows t out : List ℕ) (k : ℕ)
     → numbers (carryOnTests kind rows t out k) ≡ 1 ∷ 2 ∷ 3 ∷ 4 ∷ 5 ∷ 6 ∷ 10 ∷ 7 ∷ 8 ∷ 9 ∷ 12 ∷ []
-unfolding numbers openTests carryOnTests
+unfolding numbers openTests listTests carryOnTests
 carryOn-order kind rows t out k = refl
 
 -- ---- what the tests mean

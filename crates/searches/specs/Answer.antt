@@ -1,7 +1,7 @@
 -- What the calls answer, for every input: refusals first. The functions' promises are equations with these.
 --   bitOutside, selfLoop, oneWay rows    a bit at or above n in some row; a vertex linked to itself; a link in one row only
 --   vertexOutside n w k, repeated w k    one of the first k entries of w is n or more; one stands there twice
---   openTests, judgeTests, carryOnTests  what the calls refuse: each number with its test, in 01's order    [01: refusals]
+--   openTests, judgeTests, listTests, carryOnTests   what is refused: numbers and tests in 01's order        [01: refusals]
 --   firstRefusal tests                   the number of the first test that holds
 --   Accepts tests, Refuses r tests       no test holds; the first test that holds has number r
 --   judgeAnswer, openAnswer, carryOnAnswer   what is answered                                               [01: the calls]
@@ -61,8 +61,9 @@ judgeTests kind rows w =
     ∷ (9, repeated w (length w))
     ∷ []
 
-unfoldable pub carryOnTests : ℕ → List ℕ → List ℕ → List ℕ → ℕ → List (ℕ × Bool)
-carryOnTests kind rows t out k =
+-- what carry-on asks of its lists, before it judges the start
+unfoldable pub listTests : ℕ → List ℕ → List ℕ → List ℕ → ℕ → List (ℕ × Bool)
+listTests kind rows t out k =
     let n = length rows in
     openTests kind rows
     ++ (6, ltb n k)
@@ -70,8 +71,11 @@ carryOnTests kind rows t out k =
     ∷ (7, not (eqb (length t) n))
     ∷ (8, vertexOutside n out k || vertexOutside n t n)
     ∷ (9, repeated out k || repeated t n)
-    ∷ (12, not (isPass (judge (searchOf kind) (arcs rows) n out k)))
     ∷ []
+
+unfoldable pub carryOnTests : ℕ → List ℕ → List ℕ → List ℕ → ℕ → List (ℕ × Bool)
+carryOnTests kind rows t out k =
+    listTests kind rows t out k ++ (12, not (isPass (judge (searchOf kind) (arcs rows) (length rows) out k))) ∷ []
 
 unfoldable pub firstRefusal : List (ℕ × Bool) → Option ℕ
 firstRefusal [] = none

@@ -6,7 +6,7 @@ pub struct Vertex(pub u8);
 
 // A position in an ordering, counted from 0 (01: place). Only a look-up in the ordering turns a position
 // into the vertex that stands there.
-pub struct Position(pub u8);
+pub struct Position(pub usize);
 
 // Which of the searches is meant (01: kind). Bytes without a constant here name none and are refused.
 pub struct Kind(pub u8);
