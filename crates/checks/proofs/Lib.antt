@@ -1,0 +1,4 @@
+pub mod Passed
+pub mod OneWay
+pub mod Seen
+pub mod Tried

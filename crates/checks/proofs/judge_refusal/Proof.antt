@@ -1,0 +1,98 @@
+-- `checks::judge_refusal` meets its contract: each answer is given after the tests before it were tried.
+-- Assumes nothing.
+use mathlib.Core.Path.{_≡_, sym, ap, _∙_}
+use mathlib.Core.Bool.{Bool}
+use mathlib.Core.List.{List}
+use mathlib.Core.Option.{none}
+use Prim.Native.Nat.{ℕ}
+use denote.Ref.{now}
+use lib.ListN.{drop}
+use native.Mathlib.Omega.{arith}
+use borrow.Author.Tests.{lt-ltb, le-ltb}
+use Rattle.searches.specs.Answer.{openTests, judgeTests, firstRefusal, number, refusalOf}
+use Rattle.checks.proofs.Tried.{Tried, tried-one, tried-first, refused-here, refused-before, accepted-here, rows-fit, entries-fit}
+use Rattle.checks.proofs.judge_refusal.Statement.{statement}
+use Rattle.checks.proofs.judge_refusal.Tie as tie
+
+abbrev first-tests : tie.After-open-refusal → List (ℕ × Bool)
+first-tests c = let entry = c .before .before .before in openTests (entry .args .kind .0) (now (entry .args .rows))
+
+abbrev tests : tie.After-open-refusal → List (ℕ × Bool)
+tests c = let entry = c .before .before .before in judgeTests (entry .args .kind .0) (now (entry .args .rows)) (now (entry .args .ordering))
+
+-- the first i tests do not hold
+abbrev Past : ℕ → tie.After-open-refusal → Type 0
+Past i c = Tried (tests c) (drop i (tests c))
+
+opened : (c : tie.After-enum-told) → none ≡ firstRefusal (first-tests (c .before .before))
+unfolding refusalOf
+opened c = sym (ap refusalOf (c .enum-told .given .1)) ∙ c .before .before .open-refusal .ensures
+
+past-5 : (c : tie.After-enum-told) → Past 5 (c .before .before)
+unfolding openTests judgeTests
+past-5 c = tried-first (first-tests (c .before .before)) _ (opened c)
+
+past-6 : (c : tie.Else1) → Past 6 (c .before .before .before)
+unfolding openTests judgeTests
+past-6 c = tried-one (past-5 (c .before)) (le-ltb _ _ (c .if1 .left))
+
+past-7 : (c : tie.Else2) → Past 7 (c .before .before .before .before .before)
+unfolding openTests judgeTests
+past-7 c = tried-one (past-6 (c .before .before)) (sym (c .before .vertex-outside .ensures) ∙ c .if2 .left)
+
+past-8 : (c : tie.Else3) → Past 8 (c .before .before .before .before .before .before .before)
+unfolding openTests judgeTests
+past-8 c = tried-one (past-7 (c .before .before)) (sym (c .before .repeated .ensures) ∙ c .if3 .left)
+
+open-refusal-requires : tie.Need-open-refusal-requires
+open-refusal-requires c κs = tt
+
+enum-known-opened : tie.Need-enum-known-opened
+enum-known-opened c = c .match .keys1
+
+returns : tie.Need-returns
+unfolding judgeTests refusalOf
+returns c =
+    refused-before (first-tests (c .before .before .before)) _
+    (sym (ap refusalOf (c .before .opened .given .1)) ∙ c .before .before .before .open-refusal .ensures)
+
+enum-told : tie.Need-enum-told
+enum-told c = c .match .keys2
+
+returns-2 : tie.Need-returns-2
+unfolding openTests judgeTests number refusalOf
+returns-2 c = refused-here (past-5 (c .before)) (lt-ltb _ _ (c .if1 .taken))
+
+vertex-outside-requires : tie.Need-vertex-outside-requires
+vertex-outside-requires c κs = omega arith
+
+returns-3 : tie.Need-returns-3
+unfolding openTests judgeTests number refusalOf
+returns-3 c = refused-here (past-6 (c .before .before)) (sym (c .before .vertex-outside .ensures) ∙ c .if2 .taken)
+
+repeated-requires : tie.Need-repeated-requires
+repeated-requires c κs =
+    (omega arith, entries-fit _ (rows-fit _ _ (opened (c .before .before .before))) (sym (c .before .vertex-outside .ensures) ∙ c .if2 .left))
+
+returns-4 : tie.Need-returns-4
+unfolding openTests judgeTests number refusalOf
+returns-4 c = refused-here (past-7 (c .before .before)) (sym (c .before .repeated .ensures) ∙ c .if3 .taken)
+
+returns-5 : tie.Need-returns-5
+unfolding openTests judgeTests number refusalOf
+returns-5 c = accepted-here (past-8 c)
+
+pub judge-refusal-spec : {M : Type 1} → statement M
+judge-refusal-spec =
+    tie.close
+    (tie.spec
+    open-refusal-requires
+    enum-known-opened
+    returns
+    enum-told
+    returns-2
+    vertex-outside-requires
+    returns-3
+    repeated-requires
+    returns-4
+    returns-5)

@@ -1,0 +1,153 @@
+-- `checks::list_refusal` meets its contract: each answer is given after the tests before it were tried.
+-- Assumes nothing.
+use mathlib.Core.Path.{_≡_, sym, ap, ap₂, _∙_}
+use mathlib.Core.Bool.{Bool, not, _||_}
+use mathlib.Core.List.{List}
+use mathlib.Core.Logic.{⊎-elim}
+use mathlib.Core.Option.{none}
+use Prim.Native.Nat.{ℕ}
+use denote.Ref.{now}
+use lib.ListN.{drop}
+use native.Mathlib.Omega.{arith}
+use borrow.Author.Tests.{lt-ltb, le-ltb, eq-eqb, ne-eqb}
+use Rattle.searches.specs.Answer.{openTests, listTests, firstRefusal, number, refusalOf}
+use Rattle.checks.proofs.Tried.{Tried, tried-one, tried-first, refused-here, refused-before, accepted-here, rows-fit, entries-fit}
+use Rattle.checks.proofs.list_refusal.Statement.{statement}
+use Rattle.checks.proofs.list_refusal.Tie as tie
+
+abbrev first-tests : tie.After-open-refusal → List (ℕ × Bool)
+first-tests c = let entry = c .before .before .before .before in openTests (entry .args .kind .0) (now (entry .args .rows))
+
+abbrev tests : tie.After-open-refusal → List (ℕ × Bool)
+tests c =
+    let entry = c .before .before .before .before in
+    listTests (entry .args .kind .0) (now (entry .args .rows)) (now (entry .args .tie-break)) (now (entry .args .output)) (entry .args .k)
+
+-- the first i tests do not hold
+abbrev Past : ℕ → tie.After-open-refusal → Type 0
+Past i c = Tried (tests c) (drop i (tests c))
+
+opened : (c : tie.After-enum-told) → none ≡ firstRefusal (first-tests (c .before .before))
+unfolding refusalOf
+opened c = sym (ap refusalOf (c .enum-told .given .1)) ∙ c .before .before .open-refusal .ensures
+
+past-5 : (c : tie.After-enum-told) → Past 5 (c .before .before)
+unfolding openTests listTests
+past-5 c = tried-first (first-tests (c .before .before)) _ (opened c)
+
+past-6 : (c : tie.Else1) → Past 6 (c .before .before .before)
+unfolding openTests listTests
+past-6 c = tried-one (past-5 (c .before)) (le-ltb _ _ (c .if1 .left))
+
+past-7 : (c : tie.Else2) → Past 7 (c .before .before .before .before)
+unfolding openTests listTests
+past-7 c = tried-one (past-6 (c .before)) (le-ltb _ _ (c .if2 .left))
+
+past-8 : (c : tie.Else3) → Past 8 (c .before .before .before .before .before)
+unfolding openTests listTests
+past-8 c = tried-one (past-7 (c .before)) (ap not (eq-eqb _ _ (c .if3 .left)))
+
+or-is : {a b x y : Bool} → a ≡ x → b ≡ y → (a || b) ≡ (x || y)
+or-is = ap₂ (λ (a b : Bool). a || b)
+
+past-9 : (c : tie.Else5) → Past 9 (c .before .before .before .before .before .before .before .before .before)
+unfolding openTests listTests
+past-9 c =
+    tried-one (past-8 (c .before .before .before .before))
+    (or-is (sym (c .before .before .before .vertex-outside .ensures) ∙ c .before .before .if4 .left)
+    (sym (c .before .vertex-outside2 .ensures) ∙ c .if5 .left))
+
+past-10 : (c : tie.Else7) → Past 10 (c .before .before .before .before .before .before .before .before .before .before .before .before .before)
+unfolding openTests listTests
+past-10 c =
+    tried-one (past-9 (c .before .before .before .before))
+    (or-is (sym (c .before .before .before .repeated .ensures) ∙ c .before .before .if6 .left)
+    (sym (c .before .repeated2 .ensures) ∙ c .if7 .left))
+
+open-refusal-requires : tie.Need-open-refusal-requires
+open-refusal-requires c κs = tt
+
+enum-known-opened : tie.Need-enum-known-opened
+enum-known-opened c = c .match .keys1
+
+returns : tie.Need-returns
+unfolding listTests refusalOf
+returns c =
+    refused-before (first-tests (c .before .before .before)) _
+    (sym (ap refusalOf (c .before .opened .given .1)) ∙ c .before .before .before .open-refusal .ensures)
+
+enum-told : tie.Need-enum-told
+enum-told c = c .match .keys2
+
+returns-2 : tie.Need-returns-2
+unfolding openTests listTests number refusalOf
+returns-2 c = refused-here (past-5 (c .before)) (lt-ltb _ _ (c .if1 .taken))
+
+returns-3 : tie.Need-returns-3
+unfolding openTests listTests number refusalOf
+returns-3 c = refused-here (past-6 (c .before)) (lt-ltb _ _ (c .if2 .taken))
+
+returns-4 : tie.Need-returns-4
+unfolding openTests listTests number refusalOf
+returns-4 c = refused-here (past-7 (c .before)) (ap not (ne-eqb _ _ (c .if3 .taken)))
+
+vertex-outside-requires : tie.Need-vertex-outside-requires
+vertex-outside-requires c κs = omega arith
+
+vertex-outside-requires-2 : tie.Need-vertex-outside-requires-2
+vertex-outside-requires-2 c κs = omega arith
+
+returns-5 : tie.Need-returns-5
+unfolding openTests listTests number refusalOf
+returns-5 c =
+    refused-here (past-8 (c .before .before))
+    (⊎-elim
+    (λ w. rw (sym (c .before .vertex-outside .ensures) ∙ w .taken))
+    (λ w. or-is (sym (c .before .vertex-outside .ensures) ∙ w .0 .left) (sym (w .1 .ensures) ∙ w .2 .taken))
+    (c .if4 .came))
+
+repeated-requires : tie.Need-repeated-requires
+repeated-requires c κs = (
+  omega arith,
+  entries-fit _ (rows-fit _ _ (opened (c .before .before .before .before .before .before .before)))
+      (sym (c .before .before .before .vertex-outside .ensures) ∙ c .before .before .if4 .left),
+)
+
+repeated-requires-2 : tie.Need-repeated-requires-2
+repeated-requires-2 c κs = (
+  omega arith,
+  entries-fit _ (rows-fit _ _ (opened (c .before .before .before .before .before .before .before .before .before)))
+      (sym (c .before .before .before .vertex-outside2 .ensures) ∙ c .before .before .if5 .left),
+)
+
+returns-6 : tie.Need-returns-6
+unfolding openTests listTests number refusalOf
+returns-6 c =
+    refused-here (past-9 (c .before .before))
+    (⊎-elim
+    (λ w. rw (sym (c .before .repeated .ensures) ∙ w .taken))
+    (λ w. or-is (sym (c .before .repeated .ensures) ∙ w .0 .left) (sym (w .1 .ensures) ∙ w .2 .taken))
+    (c .if6 .came))
+
+returns-7 : tie.Need-returns-7
+unfolding openTests listTests number refusalOf
+returns-7 c = accepted-here (past-10 c)
+
+pub list-refusal-spec : {M : Type 1} → statement M
+list-refusal-spec =
+    tie.close
+    (tie.spec
+    open-refusal-requires
+    enum-known-opened
+    returns
+    enum-told
+    returns-2
+    returns-3
+    returns-4
+    vertex-outside-requires
+    vertex-outside-requires-2
+    returns-5
+    repeated-requires
+    repeated-requires-2
+    returns-6
+    returns-7)

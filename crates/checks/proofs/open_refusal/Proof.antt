@@ -1,0 +1,87 @@
+-- `checks::open_refusal` meets its contract: each answer is given after the tests before it were tried.
+-- Assumes nothing.
+use mathlib.Core.Path.{sym, _∙_}
+use mathlib.Core.Bool.{Bool}
+use mathlib.Core.List.{List}
+use Prim.Native.Nat.{ℕ}
+use denote.Ref.{now}
+use lib.ListN.{drop}
+use borrow.Author.Tests.{lt-ltb, le-ltb}
+use Rattle.searches.specs.Answer.{openTests, number, refusalOf}
+use Rattle.checks.proofs.Tried.{Tried, tried-none, tried-one, refused-here, accepted-here}
+use Rattle.checks.proofs.open_refusal.Statement.{statement}
+use Rattle.checks.proofs.open_refusal.Tie as tie
+
+abbrev tests : tie.After-struct-known → List (ℕ × Bool)
+tests c = openTests (c .before .before .args .kind .0) (now (c .before .before .args .rows))
+
+-- the first i tests do not hold
+abbrev Past : ℕ → tie.After-struct-known → Type 0
+Past i c = Tried (tests c) (drop i (tests c))
+
+past-1 : (c : tie.Else1) → Past 1 (c .before)
+unfolding openTests
+past-1 c = tried-one (tried-none _) (le-ltb _ _ (c .if1 .left))
+
+past-2 : (c : tie.Else2) → Past 2 (c .before .before)
+unfolding openTests
+past-2 c = tried-one (past-1 (c .before)) (le-ltb _ _ (c .if2 .left))
+
+past-3 : (c : tie.Else3) → Past 3 (c .before .before .before .before)
+unfolding openTests
+past-3 c = tried-one (past-2 (c .before .before)) (sym (c .before .bit-outside .ensures) ∙ c .if3 .left)
+
+past-4 : (c : tie.Else4) → Past 4 (c .before .before .before .before .before .before)
+unfolding openTests
+past-4 c = tried-one (past-3 (c .before .before)) (sym (c .before .self-loop .ensures) ∙ c .if4 .left)
+
+past-5 : (c : tie.Else5) → Past 5 (c .before .before .before .before .before .before .before .before)
+unfolding openTests
+past-5 c = tried-one (past-4 (c .before .before)) (sym (c .before .one-way .ensures) ∙ c .if5 .left)
+
+returns : tie.Need-returns
+unfolding openTests number refusalOf
+returns c = refused-here (tried-none _) (lt-ltb _ _ (c .if1 .taken))
+
+returns-2 : tie.Need-returns-2
+unfolding openTests number refusalOf
+returns-2 c = refused-here (past-1 (c .before)) (lt-ltb _ _ (c .if2 .taken))
+
+bit-outside-requires : tie.Need-bit-outside-requires
+bit-outside-requires c κs = tt
+
+returns-3 : tie.Need-returns-3
+unfolding openTests number refusalOf
+returns-3 c = refused-here (past-2 (c .before .before)) (sym (c .before .bit-outside .ensures) ∙ c .if3 .taken)
+
+self-loop-requires : tie.Need-self-loop-requires
+self-loop-requires c κs = tt
+
+returns-4 : tie.Need-returns-4
+unfolding openTests number refusalOf
+returns-4 c = refused-here (past-3 (c .before .before)) (sym (c .before .self-loop .ensures) ∙ c .if4 .taken)
+
+one-way-requires : tie.Need-one-way-requires
+one-way-requires c κs = tt
+
+returns-5 : tie.Need-returns-5
+unfolding openTests number refusalOf
+returns-5 c = refused-here (past-4 (c .before .before)) (sym (c .before .one-way .ensures) ∙ c .if5 .taken)
+
+returns-6 : tie.Need-returns-6
+unfolding openTests number refusalOf
+returns-6 c = accepted-here (past-5 c)
+
+pub open-refusal-spec : {M : Type 1} → statement M
+open-refusal-spec =
+    tie.close
+    (tie.spec
+    returns
+    returns-2
+    bit-outside-requires
+    returns-3
+    self-loop-requires
+    returns-4
+    one-way-requires
+    returns-5
+    returns-6)

@@ -1,0 +1,169 @@
+// What is refused: tests on lent lists, in their order, each on every row or entry before the following one.
+// No function here alters a list.
+ghost use mathlib.Core.Path.{_≡_};
+ghost use Prim.Native.Nat.{ℕ, _≤_, _<_};
+ghost use lib.ListN.{length};
+ghost use Rattle.bitset.specs.Below.{anyBelow};
+ghost use Rattle.searches.specs.Ordering.{at};
+ghost use Rattle.searches.specs.Answer.{bitOutside, selfLoop, oneWay, vertexOutside};
+ghost use Rattle.searches.specs.Answer.{openTests, judgeTests, listTests, firstRefusal, refusalOf};
+ghost use Rattle.searches.specs.Answer as answer;
+ghost use Rattle.checks.specs.OneWay.{apart};
+use searches::Kind;
+use searches::Outcome;
+use searches::Refusal;
+
+// Whether some row has a bit at or above the number of rows.
+fn bit_outside(rows: &[u64]) -> bool
+    ensures { λ r. ⌜ r ≡ bitOutside (now (rows .entry)) ⌝ }
+{
+    let n = rows.len();
+    for u in 0..n {
+        if bitset::any_from(rows[u], n) {
+            return true;
+        }
+    }
+    false
+}
+
+// Whether some vertex is linked to itself.
+fn self_loop(rows: &[u64]) -> bool
+    ensures { λ r. ⌜ r ≡ selfLoop (now (rows .entry)) ⌝ }
+{
+    let n = rows.len();
+    for u in 0..n {
+        if bitset::contains(rows[u], u) {
+            return true;
+        }
+    }
+    false
+}
+
+// Whether `u` and some smaller vertex are linked in one of their rows only.
+fn one_way_below(rows: &[u64], u: usize) -> bool
+    requires { ⌜ u < length (now rows) ⌝ }
+    ensures { λ r. ⌜ r ≡ anyBelow u (apart (now (rows .entry)) u) ⌝ }
+{
+    let row = rows[u];
+    for v in 0..u {
+        if bitset::contains(row, v) != bitset::contains(rows[v], u) {
+            return true;
+        }
+    }
+    false
+}
+
+// Whether some link stands in one row only. Each pair of vertices is looked at once.
+fn one_way(rows: &[u64]) -> bool
+    ensures { λ r. ⌜ r ≡ oneWay (now (rows .entry)) ⌝ }
+{
+    let n = rows.len();
+    for u in 0..n {
+        if one_way_below(rows, u) {
+            return true;
+        }
+    }
+    false
+}
+
+// Whether one of the first `k` entries is `n` or more.
+fn vertex_outside(list: &[u8], k: usize, n: usize) -> bool
+    requires { ⌜ k ≤ length (now list) ⌝ }
+    ensures { λ r. ⌜ r ≡ vertexOutside n (now (list .entry)) k ⌝ }
+{
+    for p in 0..k {
+        if n <= list[p] as usize {
+            return true;
+        }
+    }
+    false
+}
+
+// Whether one of the first `k` entries, all below 64, stands there twice.
+fn repeated(list: &[u8], k: usize) -> bool
+    requires { ⌜ k ≤ length (now list) ⌝ }
+    requires { ⌜ ((p : ℕ) → p < k → at (now list) p < 64) ⌝ }
+    ensures { λ r. ⌜ r ≡ answer.repeated (now (list .entry)) k ⌝ }
+{
+    let mut seen = 0u64;
+    for q in 0..k {
+        let vertex = list[q] as usize;
+        if bitset::contains(seen, vertex) {
+            return true;
+        }
+        seen = bitset::insert(seen, vertex);
+    }
+    false
+}
+
+// The first of refusals 1 to 5 that applies to `kind` and `rows`, else `Done`. It alters neither.
+pub fn open_refusal(kind: Kind, rows: &[u64]) -> Outcome
+    ensures { λ r. ⌜ refusalOf r ≡ firstRefusal (openTests (kind .0) (now (rows .entry))) ⌝ }
+{
+    if 5 < kind.0 {
+        return Outcome::Refused(Refusal::UnknownKind);
+    }
+    if 64 < rows.len() {
+        return Outcome::Refused(Refusal::TooManyVertices);
+    }
+    if bit_outside(rows) {
+        return Outcome::Refused(Refusal::ArcOutOfRange);
+    }
+    if self_loop(rows) {
+        return Outcome::Refused(Refusal::SelfLoop);
+    }
+    if one_way(rows) {
+        return Outcome::Refused(Refusal::OneWayArc);
+    }
+    Outcome::Done
+}
+
+// The first of refusals 1 to 6, 8 and 9 that applies to `ordering` on this graph, else `Done`. It alters no list.
+pub fn judge_refusal(kind: Kind, rows: &[u64], ordering: &[u8]) -> Outcome
+    ensures { λ r. ⌜ refusalOf r ≡ firstRefusal (judgeTests (kind .0) (now (rows .entry)) (now (ordering .entry))) ⌝ }
+{
+    let opened = open_refusal(kind, rows);
+    if let Outcome::Refused(refusal) = opened {
+        return Outcome::Refused(refusal);
+    }
+    let n = rows.len();
+    let length = ordering.len();
+    if n < length {
+        return Outcome::Refused(Refusal::OrderingTooLong);
+    }
+    if vertex_outside(ordering, length, n) {
+        return Outcome::Refused(Refusal::VertexOutOfRange);
+    }
+    if repeated(ordering, length) {
+        return Outcome::Refused(Refusal::RepeatedVertex);
+    }
+    Outcome::Done
+}
+
+// The first of refusals 1 to 6, 10, 7, 8 and 9, in this order, that applies to carrying on the first `k` entries of
+// `output`, else `Done`. It alters no list, and any `k` may be given.
+pub fn list_refusal(kind: Kind, rows: &[u64], tie_break: &[u8], output: &[u8], k: usize) -> Outcome
+    ensures { λ r. ⌜ refusalOf r ≡ firstRefusal (listTests (kind .0) (now (rows .entry)) (now («tie_break» .entry)) (now (output .entry)) k) ⌝ }
+{
+    let opened = open_refusal(kind, rows);
+    if let Outcome::Refused(refusal) = opened {
+        return Outcome::Refused(refusal);
+    }
+    let n = rows.len();
+    if n < k {
+        return Outcome::Refused(Refusal::OrderingTooLong);
+    }
+    if output.len() < n {
+        return Outcome::Refused(Refusal::OutputTooShort);
+    }
+    if tie_break.len() != n {
+        return Outcome::Refused(Refusal::TieBreakLength);
+    }
+    if vertex_outside(output, k, n) || vertex_outside(tie_break, n, n) {
+        return Outcome::Refused(Refusal::VertexOutOfRange);
+    }
+    if repeated(output, k) || repeated(tie_break, n) {
+        return Outcome::Refused(Refusal::RepeatedVertex);
+    }
+    Outcome::Done
+}

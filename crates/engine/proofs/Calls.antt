@@ -1,0 +1,169 @@
+-- The two public calls, from what their parts answer.
+--   replayable                        an ordering can be replayed on empty labels
+--   fault-there, fault-judged         where the replay stops there is a violation, and the first one is judge's verdict
+--   stopped-fails, ended-passes, whole-filled, filled-carried   what extend answers and leaves
+--   judge-asked-*, carryOn-asked-*    the answers of the calls, from the checks' answer
+-- Assumes nothing.
+use mathlib.Core.Path.{_≡_, refl, sym, ap, ap₂, _∙_, subst}
+use mathlib.Core.Bool.{Bool, true, false, cond, not}
+use mathlib.Core.List.{List, [], _∷_, _++_, append-nil, append-assoc}
+use mathlib.Core.Option.{Option, none, some}
+use Prim.Native.Nat.{ℕ, _+_, _-_, _≤_, _<_}
+use native.Mathlib.Omega.{arith}
+use lib.Dec.{T}
+use lib.ListN.{length, take, drop, replicate, length-drop, drop-of-length-le}
+use lib.Seq.{take-all, drop-drop}
+use Rattle.bitset.specs.Below.{anyBelow, firstBelow}
+use Rattle.bitset.proofs.Below.{first}
+use Rattle.searches.specs.Kind.{Search, searchOf}
+use Rattle.searches.specs.Ordering.{arcs}
+use Rattle.searches.specs.Violation.{Verdict, passes, refused, judge}
+use Rattle.searches.specs.CarryOn.{carryOn}
+use Rattle.searches.specs.Answer.{isPass, judgeTests, listTests, carryOnTests, firstRefusal, judgeAnswer, carryOnAnswer, carryOnOutput}
+use Rattle.searches.proofs.Ordering.{ordering-fits}
+use Rattle.searches.proofs.CarryOn.{passes-greedy}
+use Rattle.searches.proofs.Refusals.{none-accepts, first-refuses}
+use Rattle.searches.proofs.Answers as answers
+use Rattle.checks.proofs.Tried.{tried-first, refused-before}
+use Rattle.engine.specs.Steps.{labelsAfter, freeAfter, stopsAt, lastIn, firstIn, firstFault, fillIn, Replayable, Searchable, Judgeable, Extendable}
+use Rattle.engine.proofs.Searching.{some-found}
+use Rattle.engine.proofs.Judging.{first-before, judge-fails-words, judge-passes-words}
+use Rattle.engine.proofs.Filling.{carry-fills}
+
+module _ (rows w : List ℕ) (k : ℕ) (x : Judgeable rows w k) where
+  pub replayable : Replayable rows w k (replicate 64 0)
+  replayable = record {
+    long = x .ordering .long;
+    fits = ordering-fits (length rows) (x .ordering);
+    small = x .small;
+    vertices = x .ordering .vertices;
+    empty = refl;
+  }
+
+  module _ (s : Search) (j : ℕ) (stops : j ≡ firstBelow k (stopsAt s rows w)) where
+    module _ (labels : List ℕ) (free : ℕ) (l : j < k) (at-labels : labels ≡ labelsAfter rows w j) (at-free : free ≡ freeAfter (length rows) w j) where
+      searchable : Searchable rows w k j
+      searchable = record {
+        long = x .ordering .long;
+        inside = l;
+        fits = ordering-fits (length rows) (x .ordering);
+        small = x .small;
+        vertices = x .ordering .vertices;
+      }
+
+      pub fault-there : Searchable rows w k j × T (anyBelow j (firstIn s rows w labels free j k))
+      fault-there = (
+        searchable,
+        subst (λ (ls : List ℕ). T (anyBelow j (firstIn s rows w ls free j k))) (sym at-labels)
+            (subst (λ (f : ℕ). T (anyBelow j (firstIn s rows w (labelsAfter rows w j) f j k))) (sym at-free)
+            (some-found j (firstIn s rows w (labelsAfter rows w j) (freeAfter (length rows) w j) j k)
+            (firstBelow j (firstIn s rows w (labelsAfter rows w j) (freeAfter (length rows) w j) j k)) refl
+            (first-before s rows w k (x .small) (x .ordering) j stops l
+            (firstBelow j (firstIn s rows w (labelsAfter rows w j) (freeAfter (length rows) w j) j k)) refl))),
+      )
+
+      pub fault-judged : firstFault s rows w labels free j k ≡ judge s (arcs rows) (length rows) w k
+      unfolding firstFault
+      fault-judged =
+          ap₂ (λ (ls : List ℕ) (f : ℕ). firstFault s rows w ls f j k) at-labels at-free
+          ∙ sym (judge-fails-words s rows w k (x .small) (x .ordering) j stops l
+          (firstBelow j (firstIn s rows w (labelsAfter rows w j) (freeAfter (length rows) w j) j k)) refl
+          (firstBelow (k + length rows)
+          (lastIn s rows w (labelsAfter rows w j) (freeAfter (length rows) w j) j k
+          (firstBelow j (firstIn s rows w (labelsAfter rows w j) (freeAfter (length rows) w j) j k)))) refl)
+
+      pub stopped-fails : isPass (judge s (arcs rows) (length rows) w k) ≡ false
+      unfolding firstFault isPass
+      stopped-fails = ap isPass (sym fault-judged)
+
+    pub ended-passes : k ≤ j → judge s (arcs rows) (length rows) w k ≡ passes
+    ended-passes l = judge-passes-words s rows w k (x .small) (x .ordering) (omega arith)
+
+-- ---- the output list
+
+-- a list whose tail from k on was filled up to n
+pub whole-filled : (out F : List ℕ) (k n : ℕ) → k ≤ n → n ≤ length out
+    → take k out ++ ((F ++ drop (n - k) (take (length out - k) (drop k out))) ++ drop (length out - k) (drop k out)) ≡ (take k out ++ F) ++ drop n out
+whole-filled out F k n l h =
+    let whole : take (length out - k) (drop k out) ≡ drop k out = take-all (length out - k) (drop k out) (omega (arith, length-drop k out)) in
+    let none-left : drop (length out - k) (drop k out) ≡ [] = drop-of-length-le (drop k out) {i = length out - k} (omega (arith, length-drop k out)) in
+    let behind : drop (n - k) (drop k out) ≡ drop n out = drop-drop (n - k) k out ∙ ap (λ (m : ℕ). drop m out) (let e : k + (n - k) ≡ n = omega arith in e) in
+    ap₂ (λ (a : List ℕ) (b : List ℕ). take k out ++ ((F ++ drop (n - k) a) ++ b)) whole none-left
+    ∙ ap (λ (a : List ℕ). take k out ++ a) (append-nil (F ++ drop (n - k) (drop k out))) ∙ ap (λ (a : List ℕ). take k out ++ (F ++ a)) behind
+    ∙ sym (append-assoc (take k out) F (drop n out))
+
+pub filled-carried : (s : Search) (rows t out : List ℕ) (k : ℕ) → Extendable rows t out k
+    → (count free : ℕ) (labels ys : List ℕ) → count ≡ firstBelow k (stopsAt s rows out) → k ≤ count → labels ≡ labelsAfter rows out count
+    → free ≡ freeAfter (length rows) out count
+    → ys ≡ fillIn s rows t (length rows - k) k labels free ++ drop (length rows - k) (take (length out - k) (drop k out))
+    → take k out ++ (ys ++ drop (length out - k) (drop k out)) ≡ carryOn s (arcs rows) (length rows) t out k ++ drop (length rows) out
+filled-carried s rows t out k x count free labels ys stops ended at-labels at-free at-ys =
+    let whole : count ≡ k = omega (arith, stops, first k (stopsAt s rows out) .within) in
+    let p = ended-passes rows out k (x .start) s count stops ended in
+    let F = fillIn s rows t (length rows - k) k labels free in
+    let same : F ≡ fillIn s rows t (length rows - k) k (labelsAfter rows out k) (freeAfter (length rows) out k) =
+    ap₂ (λ (ls : List ℕ) (f : ℕ). fillIn s rows t (length rows - k) k ls f) (at-labels ∙ ap (λ (j : ℕ). labelsAfter rows out j) whole)
+    (at-free ∙ ap (λ (j : ℕ). freeAfter (length rows) out j) whole)
+    in
+    ap (λ (y : List ℕ). take k out ++ (y ++ drop (length out - k) (drop k out))) at-ys
+    ∙ whole-filled out F k (length rows) (ordering-fits (length rows) (x .start .ordering)) (x .room)
+    ∙ ap (λ (f : List ℕ). (take k out ++ f) ++ drop (length rows) out) same
+    ∙ ap (λ (a : List ℕ). a ++ drop (length rows) out)
+    (sym (carry-fills s rows (x .start .small) t out k (x .names) (x .start .ordering)
+    (passes-greedy s (arcs rows) (length rows) out k (x .start .ordering) p)))
+
+-- ---- from the checks' answer to the calls' answers
+
+module _ (kind : ℕ) (rows w : List ℕ) where
+  pub judge-asked-refused : (q : ℕ) → some q ≡ firstRefusal (judgeTests kind rows w) → refused q ≡ judgeAnswer kind rows w
+  judge-asked-refused q e = sym (answers.judge-refused kind rows w q (first-refuses (judgeTests kind rows w) q (sym e)))
+
+  pub judge-asked-accepted : none ≡ firstRefusal (judgeTests kind rows w)
+      → Judgeable rows w (length w) × (judge (searchOf kind) (arcs rows) (length rows) w (length w) ≡ judgeAnswer kind rows w)
+  judge-asked-accepted e =
+      let a = none-accepts (judgeTests kind rows w) (sym e) in
+      let x = answers.accepted-ordering kind rows w a in
+      (record { small = answers.valid-small kind rows (x .0); ordering = x .1 }, sym (answers.judge-accepted kind rows w a))
+
+module _ (kind : ℕ) (rows t out : List ℕ) (k : ℕ) where
+  abbrev verdict : Verdict
+  verdict = judge (searchOf kind) (arcs rows) (length rows) out k
+
+  pub carryOn-asked-refused : (q : ℕ) → some q ≡ firstRefusal (listTests kind rows t out k)
+      → (some q ≡ carryOnAnswer kind rows t out k) × (out ≡ carryOnOutput kind rows t out k)
+  unfolding carryOnAnswer carryOnTests
+  carryOn-asked-refused q e =
+      let r : some q ≡ firstRefusal (carryOnTests kind rows t out k) = refused-before (listTests kind rows t out k) ((12, not (isPass verdict)) ∷ []) e in
+      (r, sym (answers.carryOn-kept kind rows t out k q (first-refuses (carryOnTests kind rows t out k) q (sym r))))
+
+  pub carryOn-asked-accepted : none ≡ firstRefusal (listTests kind rows t out k) → Extendable rows t out k
+  carryOn-asked-accepted e =
+      let x = answers.accepted-lists kind rows t out k (none-accepts (listTests kind rows t out k) (sym e)) in
+      record { start = record { small = answers.valid-small kind rows (x .valid); ordering = x .start }; room = x .room; names = x .tie-break }
+
+  -- the last test is on the start
+  pub carryOn-asked-last : none ≡ firstRefusal (listTests kind rows t out k)
+      → (cond (isPass verdict) none (some 12) ≡ carryOnAnswer kind rows t out k)
+      × (cond (isPass verdict) (carryOn (searchOf kind) (arcs rows) (length rows) t out k ++ drop (length rows) out) out ≡ carryOnOutput kind rows t out k)
+  unfolding carryOnAnswer carryOnTests carryOnOutput firstRefusal
+  carryOn-asked-last e =
+      let last : firstRefusal (carryOnTests kind rows t out k) ≡ cond (isPass verdict) none (some 12) =
+      sym (tried-first (listTests kind rows t out k) ((12, not (isPass verdict)) ∷ []) e .same) ∙ turned (isPass verdict)
+      in
+      (sym last, left (isPass verdict) (firstRefusal (carryOnTests kind rows t out k)) last)
+    where
+      turned : (b : Bool) → cond {A = Option ℕ} (not b) (some 12) none ≡ cond b none (some 12)
+      turned true = refl
+      turned false = refl
+
+      kept : Option ℕ → List ℕ
+      kept answer =
+          elim answer [
+            | none ↦ carryOn (searchOf kind) (arcs rows) (length rows) t out k ++ drop (length rows) out
+            | some r ↦ out
+          ]
+
+      left : (b : Bool) (answer : Option ℕ) → answer ≡ cond b none (some 12)
+          → cond b (carryOn (searchOf kind) (arcs rows) (length rows) t out k ++ drop (length rows) out) out ≡ kept answer
+      left true answer same = sym (ap kept same)
+      left false answer same = sym (ap kept same)

@@ -1,0 +1,98 @@
+-- `engine::extend` meets its contract: a start that does not pass is refused, any other is filled up from its end on.
+-- Assumes nothing.
+use mathlib.Core.Path.{_≡_, sym, ap, _∙_}
+use mathlib.Core.Bool.{Bool, true, cond}
+use mathlib.Core.List.{_++_}
+use mathlib.Core.Option.{Option, none, some}
+use Prim.Native.Nat.{ℕ, _-_}
+use denote.Ref.{now}
+use native.Mathlib.Omega.{arith}
+use lib.ListN.{length, drop, length-take, length-drop}
+use Rattle.searches.specs.Kind.{searchOf}
+use Rattle.searches.specs.Ordering.{arcs}
+use Rattle.searches.specs.Violation.{judge}
+use Rattle.searches.specs.CarryOn.{carryOn}
+use Rattle.searches.specs.Answer.{isPass, refusalOf, number}
+use Rattle.searches.proofs.Ordering.{ordering-fits}
+use Rattle.engine.proofs.Calls.{replayable, stopped-fails, ended-passes, filled-carried}
+use borrow.Author.Needs.{needs}
+use Rattle.engine.proofs.extend.Statement.{statement}
+use Rattle.engine.proofs.extend.Tie as tie
+use Rattle.engine.proofs.extend.Reads as reads
+use Rattle.engine.proofs.extend.Lts as lts
+use Rattle.engine.proofs.fill.fill.Reads as fill-reads
+use Rattle.engine.proofs.replay.replay.Reads as replay-reads
+
+replay-requires : tie.Need-replay-requires
+replay-requires c κs = let s = c .before .before .before .before .before in replayable (now (s .args .rows)) (now (s .args .output)) (s .args .k) (s .pre .start)
+
+same-length : tie.Need-same-length
+same-length c = search needs
+
+returns : tie.Need-returns
+unfolding refusalOf number
+returns c =
+    let s = c .before .before .before .before .before .before .before .before in
+    let a = s .args in
+    let k = searchOf (a .kind .0) in
+    let r = c .before .before .replay in
+    let e = stopped-fails (now (a .rows)) (now (a .output)) (a .k) (s .pre .start) k (r .result .count) (r .ensures .0) (r .last .1 .1 .1 .1 .0)
+    (r .result .free) (c .if1 .taken) (r .ensures .1 .1) (r .ensures .1 .0)
+    in (
+      sym (ap (λ (x : Bool). cond {A = Option ℕ} x none (some 12)) e),
+      sym (ap (λ (x : Bool). cond x (carryOn k (arcs (now (a .rows))) (length (now (a .rows))) (now (a .tie-break)) (now (a .output)) (a .k) ++ drop (length (now (a .rows))) (now (a .output))) (now (a .output))) e),
+    )
+
+sub-fill : tie.Need-sub-fill
+sub-fill c = search needs
+
+part-fill-start : tie.Need-part-fill-start
+part-fill-start c = search needs
+
+part-fill-end : tie.Need-part-fill-end
+part-fill-end c = search needs
+
+fill-requires : tie.Need-fill-requires
+fill-requires c κs =
+    let s = c .before .before .before .before .before .before .before .before .before .before in
+    let a = s .args in
+    let room = s .pre .room in
+    let fits = ordering-fits (length (now (a .rows))) (s .pre .start .ordering) in (
+      fits,
+      (
+        s .pre .start .small,
+        omega (arith, room, fits, length-take (length (now (a .output)) - a .k) (drop (a .k) (now (a .output))), length-drop (a .k) (now (a .output))),
+      ),
+    )
+
+same-length-2 : tie.Need-same-length-2
+same-length-2 c = search needs
+
+returns-2 : tie.Need-returns-2
+unfolding refusalOf isPass
+returns-2 c =
+    let s = c .before .before .before .before .before .before .before .before .before .before .before .before .before in
+    let a = s .args in
+    let k = searchOf (a .kind .0) in
+    let r = c .before .before .before .before .before .before .before .replay in
+    let p = ended-passes (now (a .rows)) (now (a .output)) (a .k) (s .pre .start) k (r .result .count) (r .ensures .0) (omega arith) in
+    let e : isPass (judge k (arcs (now (a .rows))) (length (now (a .rows))) (now (a .output)) (a .k)) ≡ true = ap isPass p in (
+      sym (ap (λ (x : Bool). cond {A = Option ℕ} x none (some 12)) e),
+      filled-carried k (now (a .rows)) (now (a .tie-break)) (now (a .output)) (a .k) (s .pre) (r .result .count) (r .result .free) (r .last .1 .1 .1 .1 .0)
+          (c .before .before .fill .last .1 .1 .1 .0) (r .ensures .0) (omega arith) (r .ensures .1 .1) (r .ensures .1 .0) (c .before .before .fill .ensures)
+          ∙ sym (ap (λ (x : Bool). cond x (carryOn k (arcs (now (a .rows))) (length (now (a .rows))) (now (a .tie-break)) (now (a .output)) (a .k) ++ drop (length (now (a .rows))) (now (a .output))) (now (a .output))) e),
+    )
+
+pub extend-spec : {M : Type 1} → statement M
+extend-spec =
+    tie.close
+    (tie.spec
+    replay-requires
+    same-length
+    returns
+    sub-fill
+    part-fill-start
+    part-fill-end
+    fill-requires
+    same-length-2
+    returns-2)

@@ -1,0 +1,140 @@
+-- `engine::replay::replay` meets its contract.
+-- Assumes nothing.
+use Prim.Native.Nat.{ℕ, _<_, _≤_, _-_}
+use mathlib.Core.Path.{_≡_, sym, ap, _∙_}
+use lib.ListN.{length}
+use Rattle.bitset.proofs.Tests.{said-true, said-false}
+use Rattle.engine.specs.Steps.{labelsAfter, freeAfter, stopsAt}
+use native.Mathlib.Omega.{arith}
+use borrow.Author.Needs.{needs}
+use Rattle.searches.specs.Kind.{searchOf}
+use Rattle.engine.proofs.Replaying.{Replaying, replay-start, replay-next, replay-stop, replay-end, asked}
+use Rattle.engine.proofs.replay.replay.Statement.{statement}
+use Rattle.engine.proofs.replay.replay.Tie as tie
+use Rattle.engine.proofs.replay.replay.Reads as reads
+use Rattle.engine.proofs.replay.replay.Lts as lts
+use Rattle.bitset.proofs.full_below.Reads as full-below-reads
+use Rattle.bitset.proofs.remove.Reads as remove-reads
+use Rattle.engine.proofs.lookup.vertex_at.Reads as vertex-at-reads
+use Rattle.labels.proofs.is_beaten.Reads as is-beaten-reads
+use Rattle.labels.proofs.spread.Reads as spread-reads
+
+abbrev Inv-loop : tie.InvT-loop
+Inv-loop kind rows ordering k labels₀ free₀ j₀ labels free j = Replaying (searchOf (kind .0)) rows ordering k labels free j
+
+abbrev μ-loop : tie.MeasureT-loop
+μ-loop kind rows ordering k labels₀ free₀ j₀ labels free j = k - j
+
+full-below-requires : tie.Need-full-below-requires Inv-loop μ-loop
+full-below-requires c κs = search needs
+
+-- the vertex whose turn it is
+inside : (c : tie.After-vertex-at Inv-loop μ-loop)
+    → (c .vertex-at .result .0 < length (c .before .before .before .before .before .before .args .rows .now))
+    × (length (c .before .before .before .before .before .before .args .rows .now) ≤ 64)
+inside c =
+    let s = c .before .before .before .before .before .before in
+    (omega (arith, c .vertex-at .ensures, s .pre .vertices (c .before .before .loop .j) (c .before .loop-test .taken)), s .pre .small)
+
+loop-holds : tie.Need-loop-holds Inv-loop μ-loop
+loop-holds c =
+    let s = c .before .before .before in
+    replay-start (searchOf (s .args .kind .0)) (s .args .rows .now) (s .args .ordering .now) (s .args .k) (s .pre) (c .full-below .ensures)
+
+vertex-at-requires : tie.Need-vertex-at-requires Inv-loop μ-loop
+vertex-at-requires c κs = let s = c .before .before .before .before .before in omega (arith, s .pre .long, s .pre .fits)
+
+cast-b : tie.Need-cast-b Inv-loop μ-loop
+cast-b c = omega (arith, inside (c .before))
+
+mul-mine : tie.Need-mul-mine Inv-loop μ-loop
+mul-mine c = omega (arith, inside (c .before))
+
+element-copy-out-mine : tie.Need-element-copy-out-mine Inv-loop μ-loop
+element-copy-out-mine c = omega (arith, inside (c .before))
+
+is-beaten-requires : tie.Need-is-beaten-requires Inv-loop μ-loop
+is-beaten-requires c κs = search needs
+
+returns : tie.Need-returns Inv-loop μ-loop
+returns c =
+    let v = c .before .before .before .before .before in
+    let l = v .before .before in
+    let s = l .before .before .before .before in
+    let k = searchOf (s .args .kind .0) in
+    let w = s .args .ordering .now in
+    let r = s .args .rows .now in (
+      replay-stop k r w (s .args .k) (l .loop .inv) (v .before .loop-test .taken)
+          (said-true (stopsAt k r w (l .loop .j)) (c .before .is-beaten .ensures ∙ asked k r w (s .args .k) (l .loop .inv) (v .vertex-at .ensures)) (c .if1 .taken)),
+      (l .loop .inv .unplaced, l .loop .inv .labelled),
+    )
+
+mul-spread : tie.Need-mul-spread Inv-loop μ-loop
+mul-spread c = omega (arith, inside (c .before .before .before .before .before .before))
+
+shared-slice-read-spread : tie.Need-shared-slice-read-spread Inv-loop μ-loop
+shared-slice-read-spread c = omega (arith, inside (c .before .before .before .before .before .before .before))
+
+spread-requires : tie.Need-spread-requires Inv-loop μ-loop
+spread-requires c κs = let v = c .before .before .before .before .before .before .before in omega (arith, inside v, v .before .before .before .before .before .before .pre .fits)
+
+remove-requires : tie.Need-remove-requires Inv-loop μ-loop
+remove-requires c κs = search needs
+
+add-j : tie.Need-add-j Inv-loop μ-loop
+add-j c = search needs
+
+loop-less : tie.Need-loop-less Inv-loop μ-loop
+loop-less c = search needs
+
+loop-again : tie.Need-loop-again Inv-loop μ-loop
+loop-again c =
+    let beaten = c .before .before .before .before .before in
+    let v = beaten .before .before .before .before in
+    let l = v .before .before in
+    let s = l .before .before .before .before in
+    let k = searchOf (s .args .kind .0) in
+    let w = s .args .ordering .now in
+    let r = s .args .rows .now in
+    replay-next k r w (s .args .k) (c .before .spread .last .0) (c .remove .result) (l .loop .inv) (v .before .loop-test .taken) (v .vertex-at .ensures)
+    (said-false (stopsAt k r w (l .loop .j)) (beaten .is-beaten .ensures ∙ asked k r w (s .args .k) (l .loop .inv) (v .vertex-at .ensures))
+    (c .before .before .before .before .if1 .left))
+    (c .before .spread .ensures) (c .remove .ensures)
+
+returns-2 : tie.Need-returns-2 Inv-loop μ-loop
+returns-2 c =
+    let l = c .before in
+    let s = l .before .before .before .before in
+    let k = searchOf (s .args .kind .0) in
+    let w = s .args .ordering .now in
+    let r = s .args .rows .now in
+    let e : l .loop .j ≡ s .args .k = omega (arith, l .loop .inv .upto) in (
+      sym e ∙ replay-end k r w (s .args .k) (l .loop .inv) (omega arith),
+      (
+        l .loop .inv .unplaced ∙ ap (λ (m : ℕ). freeAfter (length r) w m) e,
+        l .loop .inv .labelled ∙ ap (λ (m : ℕ). labelsAfter r w m) e,
+      ),
+    )
+
+pub replay-spec : {M : Type 1} → statement M
+replay-spec =
+    tie.close
+    (tie.spec
+    Inv-loop
+    μ-loop
+    full-below-requires
+    loop-holds
+    vertex-at-requires
+    cast-b
+    mul-mine
+    element-copy-out-mine
+    is-beaten-requires
+    returns
+    mul-spread
+    shared-slice-read-spread
+    spread-requires
+    remove-requires
+    add-j
+    loop-less
+    loop-again
+    returns-2)

@@ -1,0 +1,47 @@
+-- The choice by a tie-break: a list searched from its end.
+--   Closed s labels free t q      no entry of t from q on is open
+--   closed-next                   one entry more
+--   chosen-found, chosen-none     what the search ends with;   none-open   with no free vertex none is open
+-- Assumes nothing.
+use mathlib.Core.Path.{_≡_, sym, ap, subst}
+use mathlib.Core.Bool.{not}
+use mathlib.Core.Logic.{_⊎_, inl, inr}
+use mathlib.Core.List.{List}
+use Prim.Native.Nat.{ℕ, suc, _-_, _≤_, _<_}
+use native.Mathlib.Omega.{arith}
+use lib.Dec.{T}
+use lib.ListN.{length, getD}
+use Rattle.bitset.specs.Word.{member}
+use Rattle.bitset.proofs.Tests.{and-out, below-or}
+use Rattle.bitset.proofs.Below.{last-unique, last-none}
+use Rattle.bitset.proofs.Word.{empty-back}
+use Rattle.searches.specs.Kind.{Search}
+use Rattle.searches.specs.Ordering.{at}
+use Rattle.labels.specs.Words.{beatenIn, openIn, chosenIn}
+
+module _ (s : Search) (labels : List ℕ) (free : ℕ) (t : List ℕ) where
+  abbrev pub Closed : ℕ → Type 0
+  Closed q = (x : ℕ) → q ≤ x → x < length t → T (openIn s labels free (at t x)) → ⊥
+
+  pub closed-next : (q : ℕ) → 0 < q → Closed q → (T (openIn s labels free (at t (q - 1))) → ⊥) → Closed (q - 1)
+  closed-next q pos none out x l h o = go (below-or x q)
+    where
+      go : (x < q) ⊎ (q ≤ x) → ⊥
+      go (inl i) = let e : x ≡ q - 1 = omega arith in out (subst (λ (y : ℕ). T (openIn s labels free (at t y))) e o)
+      go (inr i) = none x i h o
+
+  pub chosen-found : (q : ℕ) → q < length t → Closed (suc q) → T (openIn s labels free (at t q)) → at t q ≡ chosenIn s labels free t
+  unfolding chosenIn
+  chosen-found q l none o = ap (λ (x : ℕ). at t x) (last-unique (record { below = l; holds = o; greatest = λ i h p. under i h p (below-or q i) }))
+    where
+      under : (i : ℕ) → i < length t → T (openIn s labels free (at t i)) → (q < i) ⊎ (i ≤ q) → i ≤ q
+      under i h p (inl g) = absurd (none i g h p)
+      under i h p (inr g) = g
+
+  pub chosen-none : Closed 0 → at t 0 ≡ chosenIn s labels free t
+  unfolding chosenIn
+  chosen-none none = ap (λ (x : ℕ). at t x) (sym (last-none (length t) (λ q. openIn s labels free (at t q)) (λ i l. none i (omega arith) l)))
+
+  pub none-open : free ≡ 0 → Closed 0
+  unfolding openIn
+  none-open e x l h o = empty-back e (at t x) (and-out (member free (at t x)) (not (beatenIn s labels free (getD labels (at t x) 0))) o .0)

@@ -1,0 +1,275 @@
+-- The comparison of two labels that are kept as words, search by search, and the test for an excuse.
+--   empty-word                              a word has no member exactly when it is 0
+--   upper-above, upper-least                what upperBound is
+--   bfs-words, dfs-words, lexBfs-words, generic-words   what the code computes is what aheadIn says
+--   unexcused-*                             likewise for unexcusedIn
+--   of-kind, searchOf-other                 from a search to its kind byte
+-- Assumes nothing.
+use mathlib.Core.Path.{_≡_, refl, sym, ap, ap₂, _∙_, subst}
+use mathlib.Core.Bool.{Bool, true, false, cond, not, _&&_, and-comm}
+use mathlib.Core.Logic.{_⊎_, inl, inr, _≢_}
+use Prim.Native.Nat.{ℕ, zero, suc, _≤_, _<_, _^_}
+use native.Mathlib.Omega.{arith}
+use lib.Dec.{T, ltb, leb, eqb, ltb→lt, lt→ltb, leb→le, le→leb, eqb→eq, eqb-refl, not-T, T-not}
+use Rattle.bitset.specs.Below.{anyBelow, firstBelow, lastBelow, differ, within}
+use Rattle.bitset.specs.Word.{member, difference, fromUp, upperBound}
+use Rattle.bitset.proofs.Tests.{and-in, and-out, and-true, decided, same-test, is-true, is-false, cond-yes, cond-no, three-ways, below-or}
+use Rattle.bitset.proofs.Below.{Some, any-out, any-in, any-at, any-same, first, first-earliest, last}
+use Rattle.bitset.proofs.Sets.{within-in, within-out}
+use Rattle.bitset.proofs.Word as word
+use Rattle.searches.specs.Kind.{Search, generic, bfs, dfs, lexBfs, lexDfs, mns, searchOf}
+use Rattle.searches.specs.Label.{empty, settled, outranks}
+use Rattle.searches.specs.Violation.{excuses}
+use Rattle.searches.proofs.Reason.{Reason, outranks→reason, reason→outranks}
+use Rattle.labels.specs.Words.{aheadIn, unexcusedIn}
+
+-- ---- words as sets
+
+pub empty-word : (x : ℕ) → x < 2 ^ 64 → empty 64 (member x) ≡ eqb x 0
+unfolding empty
+empty-word x h = same-test (not (anyBelow 64 (member x))) (eqb x 0) forth back
+  where
+    forth : T (not (anyBelow 64 (member x))) → T (eqb x 0)
+    forth t =
+        subst (λ (y : ℕ). T (eqb y 0)) (sym (word.empty 64 h (λ p l m. T-not (anyBelow 64 (member x)) t (any-at 64 (member x) p l m)))) (eqb-refl 0)
+
+    back : T (eqb x 0) → T (not (anyBelow 64 (member x)))
+    back t = not-T (anyBelow 64 (member x)) (λ u. let s = any-out 64 (member x) u in word.empty-back (eqb→eq x 0 t) (s .at) (s .holds))
+
+pub upper-above : (x p : ℕ) → p < 64 → T (member x p) → p < upperBound x
+unfolding upperBound
+upper-above x p l t =
+    let some : Some 64 (member x) = record { at = p; below = l; holds = t } in
+    let e = cond-yes (anyBelow 64 (member x)) (suc (lastBelow 64 (member x))) 0 (any-in some) in
+    omega (arith, e, last some .greatest p l t)
+
+pub upper-least : (x m : ℕ) → ((p : ℕ) → p < 64 → T (member x p) → p < m) → upperBound x ≤ m
+unfolding upperBound
+upper-least x m h = go (decided (anyBelow 64 (member x)))
+  where
+    go : T (anyBelow 64 (member x)) ⊎ (T (anyBelow 64 (member x)) → ⊥) → cond (anyBelow 64 (member x)) (suc (lastBelow 64 (member x))) 0 ≤ m
+    go (inl t) =
+        let some = any-out 64 (member x) t in
+        omega (arith, cond-yes (anyBelow 64 (member x)) (suc (lastBelow 64 (member x))) 0 t, h (lastBelow 64 (member x)) (last some .below) (last some .holds))
+    go (inr none) = omega (arith, cond-no (anyBelow 64 (member x)) (suc (lastBelow 64 (member x))) 0 none)
+
+-- where upperBound is not 0 the word has a member just below it
+pub upper-some : (x : ℕ) → 0 < upperBound x → Some 64 (member x)
+unfolding upperBound
+upper-some x pos = go (decided (anyBelow 64 (member x)))
+  where
+    go : T (anyBelow 64 (member x)) ⊎ (T (anyBelow 64 (member x)) → ⊥) → Some 64 (member x)
+    go (inl t) = any-out 64 (member x) t
+    go (inr none) = absurd (omega (arith, cond-no (anyBelow 64 (member x)) (suc (lastBelow 64 (member x))) 0 none))
+
+pub upper-last : (x : ℕ) → Some 64 (member x) → upperBound x ≡ suc (lastBelow 64 (member x))
+unfolding upperBound
+upper-last x some = cond-yes (anyBelow 64 (member x)) (suc (lastBelow 64 (member x))) 0 (any-in some)
+
+-- ---- who is ahead
+
+module _ (c b : ℕ) where
+  pub bfs-words : ltb (firstBelow 64 (member c)) (firstBelow 64 (member b)) ≡ aheadIn bfs c b
+  unfolding aheadIn excuses
+  bfs-words =
+      same-test (ltb p q) (outranks bfs 64 (member c) (member b)) (λ t. reason→outranks 64 (member c) (member b) bfs (forth (ltb→lt p q t)))
+      (λ t. lt→ltb p q (back (outranks→reason 64 (member c) (member b) bfs t)))
+    where
+      p : ℕ
+      p = firstBelow 64 (member c)
+
+      q : ℕ
+      q = firstBelow 64 (member b)
+
+      forth : p < q → Reason (excuses bfs) 64 (member c) (member b)
+      forth l =
+          let h : p < 64 = omega (arith, first 64 (member b) .within) in
+          record {
+            position = p;
+            below = h;
+            ours = first 64 (member c) .holds h;
+            theirs = first 64 (member b) .least p l;
+            unexcused = λ d i x y. first 64 (member b) .least d (omega (arith, ltb→lt d p y)) x;
+          }
+
+      back : Reason (excuses bfs) 64 (member c) (member b) → p < q
+      back r = go (three-ways (r .position) q)
+        where
+          before : p ≤ r .position
+          before = first-earliest 64 (member c) (r .position) (r .ours)
+
+          go : (r .position < q) ⊎ ((r .position ≡ q) ⊎ (q < r .position)) → p < q
+          go (inl l) = omega (arith, before)
+          go (inr (inl e)) = absurd (r .theirs (subst (λ (x : ℕ). T (member b x)) (sym e) (first 64 (member b) .holds (omega (arith, r .below)))))
+          go (inr (inr l)) =
+              let i : q < 64 = omega (arith, r .below) in
+              absurd (r .unexcused q i (first 64 (member b) .holds i) (lt→ltb q (r .position) l))
+
+  pub dfs-words : ltb (upperBound b) (upperBound c) ≡ aheadIn dfs c b
+  unfolding aheadIn excuses
+  dfs-words =
+      same-test (ltb (upperBound b) (upperBound c)) (outranks dfs 64 (member c) (member b))
+      (λ t. reason→outranks 64 (member c) (member b) dfs (forth (ltb→lt (upperBound b) (upperBound c) t)))
+      (λ t. lt→ltb (upperBound b) (upperBound c) (back (outranks→reason 64 (member c) (member b) dfs t)))
+    where
+      forth : upperBound b < upperBound c → Reason (excuses dfs) 64 (member c) (member b)
+      forth l =
+          let some = upper-some c (omega arith) in
+          let top = last some in
+          let e = upper-last c some in
+          record {
+            position = lastBelow 64 (member c);
+            below = top .below;
+            ours = top .holds;
+            theirs = λ x. omega (arith, e, upper-above b (lastBelow 64 (member c)) (top .below) x);
+            unexcused = λ d i x y. omega (arith, e, upper-above b d i x, ltb→lt (lastBelow 64 (member c)) d y);
+          }
+
+      back : Reason (excuses dfs) 64 (member c) (member b) → upperBound b < upperBound c
+      back r = omega (arith, upper-least b (r .position) under, upper-above c (r .position) (r .below) (r .ours))
+        where
+          under : (d : ℕ) → d < 64 → T (member b d) → d < r .position
+          under d i x = go (three-ways d (r .position))
+            where
+              go : (d < r .position) ⊎ ((d ≡ r .position) ⊎ (r .position < d)) → d < r .position
+              go (inl l) = l
+              go (inr (inl e)) = absurd (r .theirs (subst (λ (y : ℕ). T (member b y)) e x))
+              go (inr (inr l)) = absurd (r .unexcused d i x (lt→ltb (r .position) d l))
+
+  pub lexBfs-words : c < 2 ^ 64 → member c (firstBelow 64 (differ (member c) (member b))) ≡ aheadIn lexBfs c b
+  unfolding aheadIn outranks settled
+  lexBfs-words h = go (decided (anyBelow 64 apart))
+    where
+      apart : ℕ → Bool
+      apart = differ (member c) (member b)
+
+      p : ℕ
+      p = firstBelow 64 apart
+
+      go : T (anyBelow 64 apart) ⊎ (T (anyBelow 64 apart) → ⊥) → member c p ≡ (anyBelow 64 apart && member c p)
+      go (inl some) = ap (λ (x : Bool). x && member c p) (sym (is-true (anyBelow 64 apart) some))
+      go (inr none) =
+          word.member-beyond 64 h p (beyond (below-or p 64)) ∙ ap (λ (x : Bool). x && member c p) (sym (is-false (anyBelow 64 apart) none))
+        where
+          beyond : (p < 64) ⊎ (64 ≤ p) → 64 ≤ p
+          beyond (inl l) = absurd (none (any-at 64 apart p l (first 64 apart .holds l)))
+          beyond (inr l) = l
+
+  pub lexDfs-words : (anyBelow 64 (differ (member c) (member b)) && member c (lastBelow 64 (differ (member c) (member b)))) ≡ aheadIn lexDfs c b
+  unfolding aheadIn outranks settled
+  lexDfs-words = refl
+
+  pub mns-words : (within 64 (member b) (member c) && not (within 64 (member c) (member b))) ≡ aheadIn mns c b
+  unfolding aheadIn outranks
+  mns-words = refl
+
+  pub generic-words : c < 2 ^ 64 → b < 2 ^ 64 → (not (eqb c 0) && eqb b 0) ≡ aheadIn generic c b
+  unfolding aheadIn outranks
+  generic-words hc hb = ap₂ (λ (x y : Bool). not x && y) (sym (empty-word c hc)) (sym (empty-word b hb))
+
+-- ---- the kind byte
+
+pub of-kind : {kind k : ℕ} {r : Bool} (f : Search → Bool) → kind ≡ k → r ≡ f (searchOf k) → r ≡ f (searchOf kind)
+of-kind {kind} {k} {r} f e h = subst (λ (x : ℕ). r ≡ f (searchOf x)) (sym e) h
+
+pub searchOf-other : (kind : ℕ) → kind ≢ 1 → kind ≢ 2 → kind ≢ 3 → kind ≢ 4 → kind ≢ 5 → searchOf kind ≡ generic
+unfolding searchOf
+searchOf-other zero a b c d e = refl
+searchOf-other (suc zero) a b c d e = absurd (a refl)
+searchOf-other (suc (suc zero)) a b c d e = absurd (b refl)
+searchOf-other (suc (suc (suc zero))) a b c d e = absurd (c refl)
+searchOf-other (suc (suc (suc (suc zero)))) a b c d e = absurd (d refl)
+searchOf-other (suc (suc (suc (suc (suc zero))))) a b c d e = absurd (e refl)
+searchOf-other (suc (suc (suc (suc (suc (suc more)))))) a b c d e = refl
+
+-- ---- who is excused
+
+module _ (i c b : ℕ) where
+  -- no member of x that is a member of b and excuses by the test e
+  none-such : (x : ℕ → Bool) (e : ℕ → Bool) → ((d : ℕ) → d < 64 → (x d ≡ (member b d && e d))) → (r : Bool) → r ≡ not (anyBelow 64 x)
+      → r ≡ not (anyBelow 64 (λ d. member b d && e d))
+  none-such x e h r s = s ∙ ap not (any-same 64 x (λ d. member b d && e d) h)
+
+  pub unexcused-generic : b < 2 ^ 64 → eqb b 0 ≡ unexcusedIn generic i c b
+  unfolding unexcusedIn excuses empty
+  unexcused-generic hb = none-such (member b) (λ d. true) (λ d l. and-true (member b d)) (eqb b 0) (sym (empty-word b hb))
+
+  pub unexcused-mns : within 64 (member b) (member c) ≡ unexcusedIn mns i c b
+  unfolding unexcusedIn excuses
+  unexcused-mns = same-test (within 64 (member b) (member c)) (not (anyBelow 64 outside)) forth back
+    where
+      outside : ℕ → Bool
+      outside d = member b d && not (member c d)
+
+      forth : T (within 64 (member b) (member c)) → T (not (anyBelow 64 outside))
+      forth t = not-T (anyBelow 64 outside) (λ u.
+          let s = any-out 64 outside u in
+          let both = and-out (member b (s .at)) (not (member c (s .at))) (s .holds) in
+          T-not (member c (s .at)) (both .1) (within-out 64 (member b) (member c) t (s .at) (s .below) (both .0)))
+
+      back : T (not (anyBelow 64 outside)) → T (within 64 (member b) (member c))
+      back t = within-in 64 (member b) (member c) (λ d l x. in-c d l x (decided (member c d)))
+        where
+          in-c : (d : ℕ) → d < 64 → T (member b d) → T (member c d) ⊎ (T (member c d) → ⊥) → T (member c d)
+          in-c d l x (inl y) = y
+          in-c d l x (inr out) = absurd (T-not (anyBelow 64 outside) t (any-at 64 outside d l (and-in (member b d) (not (member c d)) x (not-T (member c d) out))))
+
+-- a set has no number below i exactly when its first is not
+none-sooner : (i x : ℕ) → i < 64 → leb i (firstBelow 64 (member x)) ≡ not (anyBelow 64 (λ d. member x d && ltb d i))
+none-sooner i x l = same-test (leb i p) (not (anyBelow 64 low)) forth back
+  where
+    p : ℕ
+    p = firstBelow 64 (member x)
+
+    low : ℕ → Bool
+    low d = member x d && ltb d i
+
+    forth : T (leb i p) → T (not (anyBelow 64 low))
+    forth t = not-T (anyBelow 64 low) (λ u.
+        let s = any-out 64 low u in
+        let both = and-out (member x (s .at)) (ltb (s .at) i) (s .holds) in
+        omega (arith, leb→le i p t, ltb→lt (s .at) i (both .1), first-earliest 64 (member x) (s .at) (both .0)))
+
+    back : T (not (anyBelow 64 low)) → T (leb i p)
+    back t = le→leb i p (go (below-or p i))
+      where
+        go : (p < i) ⊎ (i ≤ p) → i ≤ p
+        go (inl h) =
+            let g : p < 64 = omega arith in
+            absurd (T-not (anyBelow 64 low) t (any-at 64 low p g (and-in (member x p) (ltb p i) (first 64 (member x) .holds g) (lt→ltb p i h))))
+        go (inr h) = h
+
+module _ (i c b : ℕ) where
+  pub unexcused-bfs : i < 64 → leb i (firstBelow 64 (member b)) ≡ unexcusedIn bfs i c b
+  unfolding unexcusedIn excuses
+  unexcused-bfs l = none-sooner i b l
+
+  pub unexcused-lexBfs : i < 64 → leb i (firstBelow 64 (member (difference b c))) ≡ unexcusedIn lexBfs i c b
+  unfolding unexcusedIn excuses
+  unexcused-lexBfs l =
+      none-such i c b (λ d. member (difference b c) d && ltb d i) (λ d. ltb d i && not (member c d))
+      (λ d _. ap (λ (x : Bool). x && ltb d i) (word.member-difference b c d) ∙ turned (member b d) (not (member c d)) (ltb d i))
+      (leb i (firstBelow 64 (member (difference b c)))) (none-sooner i (difference b c) l)
+    where
+      turned : (x y z : Bool) → ((x && y) && z) ≡ (x && (z && y))
+      turned true true true = refl
+      turned true true false = refl
+      turned true false true = refl
+      turned true false false = refl
+      turned false y z = refl
+
+  pub unexcused-dfs : not (anyBelow 64 (fromUp (suc i) b)) ≡ unexcusedIn dfs i c b
+  unfolding unexcusedIn excuses fromUp
+  unexcused-dfs = none-such i c b (λ d. leb (suc i) d && member b d) (λ d. ltb i d) (λ d _. and-comm (leb (suc i) d) (member b d)) (not (anyBelow 64 (fromUp (suc i) b))) refl
+
+  pub unexcused-lexDfs : not (anyBelow 64 (fromUp (suc i) (difference b c))) ≡ unexcusedIn lexDfs i c b
+  unfolding unexcusedIn excuses fromUp
+  unexcused-lexDfs =
+      none-such i c b (λ d. leb (suc i) d && member (difference b c) d) (λ d. ltb i d && not (member c d))
+      (λ d _. ap (λ (x : Bool). leb (suc i) d && x) (word.member-difference b c d) ∙ turned (member b d) (not (member c d)) (leb (suc i) d))
+      (not (anyBelow 64 (fromUp (suc i) (difference b c)))) refl
+    where
+      turned : (x y z : Bool) → (z && (x && y)) ≡ (x && (z && y))
+      turned true y z = refl
+      turned false y true = refl
+      turned false y false = refl

@@ -1,0 +1,4 @@
+pub mod Comparison
+pub mod Scan
+pub mod Words
+pub mod Choosing

@@ -1,0 +1,112 @@
+-- `labels::choice::choose` meets its contract: no entry that was passed, from the end on, is open.
+-- Assumes nothing.
+use Prim.Native.Nat.{_-_, _≤_}
+use mathlib.Core.Path.{_∙_}
+use native.Mathlib.Omega.{arith}
+use lib.ListN.{length}
+use borrow.Author.Needs.{needs}
+use Rattle.bitset.proofs.Tests.{said-true, said-false}
+use Rattle.searches.specs.Kind.{searchOf}
+use Rattle.searches.specs.Ordering.{at}
+use Rattle.labels.specs.Words.{openIn}
+use Rattle.labels.proofs.Choosing.{Closed, closed-next, chosen-found, chosen-none, none-open}
+use Rattle.labels.proofs.choice.choose.Statement.{statement}
+use Rattle.labels.proofs.choice.choose.Tie as tie
+use Rattle.labels.proofs.choice.choose.Reads as reads
+use Rattle.labels.proofs.choice.choose.Lts as lts
+use Rattle.labels.proofs.choice.champion.Reads as champion-reads
+use Rattle.labels.proofs.choice.entry.Reads as entry-reads
+use Rattle.labels.proofs.choice.is_open.Reads as is-open-reads
+
+abbrev Inv-loop : tie.InvT-loop
+Inv-loop kind labels free tie-break best q₀ q = (q ≤ length tie-break) × Closed (searchOf (kind .0)) labels free tie-break q
+
+abbrev μ-loop : tie.MeasureT-loop
+μ-loop kind labels free tie-break best q₀ q = q
+
+entry-requires : tie.Need-entry-requires Inv-loop μ-loop
+entry-requires c κs = search needs
+
+returns : tie.Need-returns Inv-loop μ-loop
+returns c =
+    let a = c .before .before .before .args in
+    let k = searchOf (a .kind .0) in
+    c .entry .ensures ∙ chosen-none k (a .labels .now) (a .free) (a .tie-break .now) (none-open k (a .labels .now) (a .free) (a .tie-break .now) (c .before .if1 .taken))
+
+champion-requires : tie.Need-champion-requires Inv-loop μ-loop
+champion-requires c κs = search needs
+
+loop-holds : tie.Need-loop-holds Inv-loop μ-loop
+loop-holds c = (omega arith, λ x l h. absurd (omega arith))
+
+sub-q : tie.Need-sub-q Inv-loop μ-loop
+sub-q c = search needs
+
+shared-slice-read-is-open : tie.Need-shared-slice-read-is-open Inv-loop μ-loop
+shared-slice-read-is-open c = search needs
+
+cast-is-open : tie.Need-cast-is-open Inv-loop μ-loop
+cast-is-open c = omega (arith, c .shared-slice-known2 .given (c .before .before .loop .q - 1))
+
+is-open-requires : tie.Need-is-open-requires Inv-loop μ-loop
+is-open-requires c κs = c .before .before .before .champion .ensures
+
+shared-slice-read-result : tie.Need-shared-slice-read-result Inv-loop μ-loop
+shared-slice-read-result c = search needs
+
+returns-2 : tie.Need-returns-2 Inv-loop μ-loop
+returns-2 c =
+    let l = c .before .before .before .before .before in
+    let s = l .before .before .before .before in
+    let a = s .args in
+    let k = searchOf (a .kind .0) in
+    let offers = openIn k (a .labels .now) (a .free) (at (a .tie-break .now) (l .loop .q - 1)) in
+    chosen-found k (a .labels .now) (a .free) (a .tie-break .now) (l .loop .q - 1) (omega arith)
+    (λ x h. l .loop .inv .1 x (omega arith)) (said-true offers (c .before .before .is-open .ensures) (c .before .if2 .taken))
+
+loop-less : tie.Need-loop-less Inv-loop μ-loop
+loop-less c = search needs
+
+loop-again : tie.Need-loop-again Inv-loop μ-loop
+loop-again c =
+    let l = c .before .before .before .before in
+    let s = l .before .before .before .before in
+    let a = s .args in
+    let k = searchOf (a .kind .0) in
+    let offers = openIn k (a .labels .now) (a .free) (at (a .tie-break .now) (l .loop .q - 1)) in (
+      omega arith,
+      closed-next k (a .labels .now) (a .free) (a .tie-break .now) (l .loop .q) (omega arith) (l .loop .inv .1)
+          (said-false offers (c .before .is-open .ensures) (c .if2 .left)),
+    )
+
+entry-requires-2 : tie.Need-entry-requires-2 Inv-loop μ-loop
+entry-requires-2 c κs = search needs
+
+returns-3 : tie.Need-returns-3 Inv-loop μ-loop
+returns-3 c =
+    let l = c .before .before in
+    let s = l .before .before .before .before in
+    let a = s .args in
+    let k = searchOf (a .kind .0) in
+    c .entry2 .ensures ∙ chosen-none k (a .labels .now) (a .free) (a .tie-break .now) (λ x h. l .loop .inv .1 x (omega arith))
+
+pub choose-spec : {M : Type 1} → statement M
+choose-spec =
+    tie.close
+    (tie.spec
+    Inv-loop
+    μ-loop
+    entry-requires
+    returns
+    champion-requires
+    loop-holds
+    sub-q
+    shared-slice-read-is-open
+    cast-is-open
+    is-open-requires
+    shared-slice-read-result
+    returns-2
+    loop-less
+    loop-again
+    entry-requires-2
+    returns-3)

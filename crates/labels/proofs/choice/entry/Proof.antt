@@ -1,0 +1,22 @@
+-- `labels::choice::entry` meets its contract.
+-- Assumes nothing.
+use mathlib.Core.Path.{sym}
+use native.Mathlib.Omega.{arith}
+use lib.ListN.{List·getD-eq-default}
+use borrow.Author.Needs.{needs}
+use Rattle.labels.proofs.choice.entry.Statement.{statement}
+use Rattle.labels.proofs.choice.entry.Tie as tie
+use Rattle.labels.proofs.choice.entry.Reads as reads
+use Rattle.labels.proofs.choice.entry.Lts as lts
+
+shared-slice-read-result : tie.Need-shared-slice-read-result
+shared-slice-read-result c = search needs
+
+returns : tie.Need-returns
+returns c = search needs
+
+returns-2 : tie.Need-returns-2
+returns-2 c = sym (List·getD-eq-default (c .before .args .list .now) 0 (omega arith))
+
+pub entry-spec : {M : Type 1} → statement M
+entry-spec = tie.close (tie.spec shared-slice-read-result returns returns-2)

@@ -1,0 +1,90 @@
+-- `labels::choice::is_open` meets its contract.
+-- Assumes nothing.
+use Prim.Native.Nat.{ℕ, _<_}
+use mathlib.Core.Path.{sym, ap, _∙_}
+use native.Mathlib.Omega.{arith}
+use lib.ListN.{getD}
+use Rattle.bitset.specs.Word.{member}
+use Rattle.bitset.proofs.Tests.{not-true, not-false, said-true, said-false}
+use Rattle.bitset.proofs.Word.{member-below}
+use Rattle.searches.specs.Kind.{searchOf}
+use Rattle.labels.specs.Words.{aheadIn, openIn}
+use Rattle.labels.proofs.Scan.{closed-outside, open-champion, closed-behind, open-unbeaten}
+use borrow.Author.Needs.{needs}
+use Rattle.labels.proofs.choice.is_open.Statement.{statement}
+use Rattle.labels.proofs.choice.is_open.Tie as tie
+use Rattle.labels.proofs.choice.is_open.Reads as reads
+use Rattle.labels.proofs.choice.is_open.Lts as lts
+use Rattle.bitset.proofs.contains.Reads as contains-reads
+use Rattle.labels.proofs.is_ahead.Reads as is-ahead-reads
+use Rattle.labels.proofs.is_beaten.Reads as is-beaten-reads
+
+contains-requires : tie.Need-contains-requires
+contains-requires c κs = search needs
+
+returns : tie.Need-returns
+returns c =
+    let s = c .before .before in
+    let a = s .args in
+    let k = searchOf (a .kind .0) in
+    closed-outside k (a .labels .now) (a .free) (a .v) (said-false (member (a .free) (a .v)) (c .before .contains .ensures) (not-true (c .before .contains .result) (c .if1 .taken)))
+
+returns-2 : tie.Need-returns-2
+returns-2 c =
+    let s = c .before .before .before in
+    let a = s .args in
+    let k = searchOf (a .kind .0) in
+    open-champion k (a .labels .now) (a .free) (a .best) (s .pre) ∙ ap (λ (v : ℕ). openIn k (a .labels .now) (a .free) v) (sym (c .if2 .taken))
+
+inside : (c : lts.Else2 (contains-reads.Asked, contains-reads.Learnt, is-ahead-reads.Asked, is-ahead-reads.Learnt, is-beaten-reads.Asked, is-beaten-reads.Learnt) reads.Pre reads.Post) → c .before .before .before .args .v < 64
+inside c = let s = c .before .before .before in member-below 64 (s .fits .free .fits) (s .args .v) (said-true (member (s .args .free) (s .args .v)) (c .before .before .contains .ensures) (not-false (c .before .before .contains .result) (c .before .if1 .left)))
+
+mul-mine : tie.Need-mul-mine
+mul-mine c = omega (arith, inside c)
+
+element-copy-out-mine : tie.Need-element-copy-out-mine
+element-copy-out-mine c = inside c
+
+mul-is-ahead : tie.Need-mul-is-ahead
+mul-is-ahead c = let s = c .before .before .before .before in omega (arith, member-below 64 (s .fits .free .fits) (s .args .best) (s .pre .inside))
+
+element-copy-out-is-ahead : tie.Need-element-copy-out-is-ahead
+element-copy-out-is-ahead c = let s = c .before .before .before .before in member-below 64 (s .fits .free .fits) (s .args .best) (s .pre .inside)
+
+is-ahead-requires : tie.Need-is-ahead-requires
+is-ahead-requires c κs = search needs
+
+returns-3 : tie.Need-returns-3
+returns-3 c =
+    let s = c .before .before .before .before .before .before .before in
+    let a = s .args in
+    let k = searchOf (a .kind .0) in
+    closed-behind k (a .labels .now) (a .free) (a .best) (a .v) (member-below 64 (s .fits .free .fits) (a .best) (s .pre .inside)) (s .pre)
+    (said-true (aheadIn k (getD (a .labels .now) (a .best) 0) (getD (a .labels .now) (a .v) 0)) (c .before .is-ahead .ensures) (c .if3 .taken))
+
+is-beaten-requires : tie.Need-is-beaten-requires
+is-beaten-requires c κs = search needs
+
+returns-4 : tie.Need-returns-4
+returns-4 c =
+    let s = c .before .before .before .before .before .before .before .before in
+    let a = s .args in
+    let k = searchOf (a .kind .0) in
+    open-unbeaten k (a .labels .now) (a .free) (a .v) (c .is-beaten .result)
+    (said-true (member (a .free) (a .v)) (c .before .before .before .before .before .before .before .contains .ensures) (not-false (c .before .before .before .before .before .before .before .contains .result) (c .before .before .before .before .before .before .if1 .left))) (c .is-beaten .ensures)
+
+pub is-open-spec : {M : Type 1} → statement M
+is-open-spec =
+    tie.close
+    (tie.spec
+    contains-requires
+    returns
+    returns-2
+    mul-mine
+    element-copy-out-mine
+    mul-is-ahead
+    element-copy-out-is-ahead
+    is-ahead-requires
+    returns-3
+    is-beaten-requires
+    returns-4)

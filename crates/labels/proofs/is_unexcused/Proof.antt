@@ -1,0 +1,115 @@
+-- `labels::is_unexcused` meets its contract: each search by its law on words.
+-- Assumes nothing.
+use mathlib.Core.Path.{sym, ap, _∙_}
+use mathlib.Core.Bool.{not}
+use Prim.Native.Nat.{ℕ, _+_}
+use native.Mathlib.Omega.{arith}
+use native.Mathlib.Numerals.{add-one}
+use lib.Dec.{leb}
+use borrow.Author.Needs.{needs}
+use Rattle.bitset.specs.Below.{anyBelow, firstBelow}
+use Rattle.bitset.specs.Word.{member, difference, fromUp}
+use Rattle.searches.specs.Kind.{Search, searchOf}
+use Rattle.labels.specs.Words.{unexcusedIn}
+use Rattle.labels.proofs.Comparison.{unexcused-generic, unexcused-mns, unexcused-bfs, unexcused-dfs, unexcused-lexBfs, unexcused-lexDfs, of-kind, searchOf-other}
+use Rattle.labels.proofs.is_unexcused.Statement.{statement}
+use Rattle.labels.proofs.is_unexcused.Tie as tie
+
+smallest-requires : tie.Need-smallest-requires
+smallest-requires c κs = search needs
+
+returns : tie.Need-returns
+unfolding searchOf
+returns c =
+    let s = c .before .before .before in
+    let x = s .args in
+    of-kind (λ k. unexcusedIn k (x .position .0) (x .c) (x .b)) (c .before .if1 .taken)
+    (ap (λ (p : ℕ). leb (x .position .0) p) (c .smallest .ensures) ∙ unexcused-bfs (x .position .0) (x .c) (x .b) (omega arith))
+
+add-any-from : tie.Need-add-any-from
+add-any-from c = search needs
+
+any-from-requires : tie.Need-any-from-requires
+any-from-requires c κs = search needs
+
+returns-2 : tie.Need-returns-2
+unfolding searchOf
+returns-2 c =
+    let s = c .before .before .before .before .before in
+    let x = s .args in
+    of-kind (λ k. unexcusedIn k (x .position .0) (x .c) (x .b)) (c .before .if2 .taken)
+    (ap not (c .any-from .ensures) ∙ ap (λ (p : ℕ). not (anyBelow 64 (fromUp p (x .b)))) (add-one (x .position .0)) ∙ unexcused-dfs (x .position .0) (x .c) (x .b))
+
+without-requires : tie.Need-without-requires
+without-requires c κs = search needs
+
+smallest-requires-2 : tie.Need-smallest-requires-2
+smallest-requires-2 c κs = search needs
+
+returns-3 : tie.Need-returns-3
+unfolding searchOf
+returns-3 c =
+    let s = c .before .before .before .before .before .before .before .before in
+    let x = s .args in
+    of-kind (λ k. unexcusedIn k (x .position .0) (x .c) (x .b)) (c .before .before .if3 .taken)
+    (ap (λ (p : ℕ). leb (x .position .0) p) (c .smallest2 .ensures) ∙ ap (λ (y : ℕ). leb (x .position .0) (firstBelow 64 (member y))) (c .before .without .ensures)
+    ∙ unexcused-lexBfs (x .position .0) (x .c) (x .b) (omega arith))
+
+without-requires-2 : tie.Need-without-requires-2
+without-requires-2 c κs = search needs
+
+add-any-from-2 : tie.Need-add-any-from-2
+add-any-from-2 c = search needs
+
+any-from-requires-2 : tie.Need-any-from-requires-2
+any-from-requires-2 c κs = search needs
+
+returns-4 : tie.Need-returns-4
+unfolding searchOf
+returns-4 c =
+    let s = c .before .before .before .before .before .before .before .before .before .before in
+    let x = s .args in
+    of-kind (λ k. unexcusedIn k (x .position .0) (x .c) (x .b)) (c .before .before .if4 .taken)
+    (ap not (c .any-from2 .ensures) ∙ ap (λ (y : ℕ). not (anyBelow 64 (fromUp (x .position .0 + 1) y))) (c .before .without2 .ensures)
+    ∙ ap (λ (p : ℕ). not (anyBelow 64 (fromUp p (difference (x .b) (x .c))))) (add-one (x .position .0)) ∙ unexcused-lexDfs (x .position .0) (x .c) (x .b))
+
+subset-requires : tie.Need-subset-requires
+subset-requires c κs = search needs
+
+returns-5 : tie.Need-returns-5
+unfolding searchOf
+returns-5 c =
+    let s = c .before .before .before .before .before .before .before .before .before .before .before in
+    let x = s .args in
+    of-kind (λ k. unexcusedIn k (x .position .0) (x .c) (x .b)) (c .before .if5 .taken) (c .subset .ensures ∙ unexcused-mns (x .position .0) (x .c) (x .b))
+
+returns-6 : tie.Need-returns-6
+returns-6 c =
+    let s = c .before .before .before .before .before .before .before .before .before .before in
+    let x = s .args in
+    unexcused-generic (x .position .0) (x .c) (x .b) (s .fits .b .fits)
+    ∙ ap (λ (k : Search). unexcusedIn k (x .position .0) (x .c) (x .b))
+    (sym
+    (searchOf-other (x .kind .0) (c .before .before .before .before .before .before .before .before .if1 .left)
+    (c .before .before .before .before .before .before .if2 .left) (c .before .before .before .before .if3 .left) (c .before .before .if4 .left)
+    (c .if5 .left)))
+
+pub is-unexcused-spec : {M : Type 1} → statement M
+is-unexcused-spec =
+    tie.close
+    (tie.spec
+    smallest-requires
+    returns
+    add-any-from
+    any-from-requires
+    returns-2
+    without-requires
+    smallest-requires-2
+    returns-3
+    without-requires-2
+    add-any-from-2
+    any-from-requires-2
+    returns-4
+    subset-requires
+    returns-5
+    returns-6)

@@ -1,0 +1,47 @@
+-- What the code computes on labels that are kept as words. `labels` is the list of the 64 words, `free` the set of the unplaced vertices.
+--   aheadIn s c b                 label c is ahead of label b
+--   unexcusedIn s i c b           no position of b's excuses position i against c
+--   joinedIn row p v label        v's label, with p put in where v is in row
+--   spreadTo row p i labels       the labels, with p put into those of the vertices below i that are in row
+--   beatenIn s labels free mine   a free vertex has a label ahead of `mine`
+--   openIn s labels free v        v is free and not beaten
+--   chosenIn s labels free t      of the open vertices, the one that stands last in t
+--   Champion s labels free v      v is free and not beaten, condition by condition
+use Prim.Native.Nat.{ℕ, zero, suc}
+use mathlib.Core.Bool.{Bool, cond, not, _&&_}
+use mathlib.Core.List.{List}
+use lib.Dec.{T}
+use lib.ListN.{length, getD, set}
+use Rattle.bitset.specs.Below.{anyBelow, lastBelow}
+use Rattle.bitset.specs.Word.{member, inserted}
+use Rattle.searches.specs.Kind.{Search}
+use Rattle.searches.specs.Ordering.{at}
+use Rattle.searches.specs.Label.{outranks}
+use Rattle.searches.specs.Violation.{excuses}
+
+unfoldable pub aheadIn : Search → ℕ → ℕ → Bool
+aheadIn s c b = outranks s 64 (member c) (member b)
+
+unfoldable pub unexcusedIn : Search → ℕ → ℕ → ℕ → Bool
+unexcusedIn s i c b = not (anyBelow 64 (λ d. member b d && excuses s i d (member c d)))
+
+unfoldable pub joinedIn : ℕ → ℕ → ℕ → ℕ → ℕ
+joinedIn row p v label = cond (member row v) (inserted label p) label
+
+unfoldable pub spreadTo : ℕ → ℕ → ℕ → List ℕ → List ℕ
+spreadTo row p zero labels = labels
+spreadTo row p (suc i) labels = let rest = spreadTo row p i labels in set rest i (joinedIn row p i (getD rest i 0))
+
+module _ (s : Search) where
+  unfoldable pub beatenIn : List ℕ → ℕ → ℕ → Bool
+  beatenIn labels free mine = anyBelow 64 (λ u. member free u && aheadIn s (getD labels u 0) mine)
+
+  unfoldable pub openIn : List ℕ → ℕ → ℕ → Bool
+  openIn labels free v = member free v && not (beatenIn labels free (getD labels v 0))
+
+  unfoldable pub chosenIn : List ℕ → ℕ → List ℕ → ℕ
+  chosenIn labels free t = at t (lastBelow (length t) (λ q. openIn labels free (at t q)))
+
+pub record Champion (s : Search) (labels : List ℕ) (free v : ℕ) : Type 0 where
+  pub inside : T (member free v)
+  pub unbeaten : T (beatenIn s labels free (getD labels v 0)) → ⊥

@@ -1,0 +1,67 @@
+// The choice by a tie-break: of the offered vertices, the one that stands last in it.
+use searches::Kind;
+ghost use mathlib.Core.Path.{_≡_};
+ghost use Prim.Native.Nat.{_<_};
+ghost use Rattle.searches.specs.Kind.{searchOf};
+ghost use Rattle.searches.specs.Ordering.{at};
+ghost use Rattle.labels.specs.Words.{Champion, openIn, chosenIn};
+
+// A vertex of `free`, which is not empty, that no other vertex of it is ahead of.
+fn champion(kind: Kind, labels: &[u64; 64], free: u64) -> usize
+    requires { ⌜ 0 < free ⌝ }
+    ensures { λ r. ⌜ Champion (searchOf (kind .0)) (now (labels .entry)) free r ⌝ }
+{
+    let mut best = bitset::smallest(free);
+    let mut rest = bitset::remove(free, best);
+    while rest != 0 {
+        let u = bitset::smallest(rest);
+        if crate::is_ahead(kind, labels[u], labels[best]) {
+            best = u;
+        }
+        rest = bitset::remove(rest, u);
+    }
+    best
+}
+
+// Whether `v` is offered. `best` is a champion: it is offered itself, and most others fall to it.
+fn is_open(kind: Kind, labels: &[u64; 64], free: u64, best: usize, v: usize) -> bool
+    requires { ⌜ Champion (searchOf (kind .0)) (now labels) free best ⌝ }
+    ensures { λ r. ⌜ r ≡ openIn (searchOf (kind .0)) (now (labels .entry)) free v ⌝ }
+{
+    if !bitset::contains(free, v) {
+        return false;
+    }
+    if v == best {
+        return true;
+    }
+    let mine = labels[v];
+    if crate::is_ahead(kind, labels[best], mine) {
+        return false;
+    }
+    !crate::is_beaten(kind, labels, free, mine)
+}
+
+// The entry of `list` at `i`; 0 behind its end.
+fn entry(list: &[u8], i: usize) -> u8
+    ensures { λ r. ⌜ r ≡ at (now (list .entry)) i ⌝ }
+{
+    if i < list.len() { list[i] } else { 0 }
+}
+
+// The offered vertex that stands last in `tie_break`; its first entry where none is offered.
+pub fn choose(kind: Kind, labels: &[u64; 64], free: u64, tie_break: &[u8]) -> u8
+    ensures { λ r. ⌜ r ≡ chosenIn (searchOf (kind .0)) (now (labels .entry)) free (now («tie_break» .entry)) ⌝ }
+{
+    if free == 0 {
+        return entry(tie_break, 0);
+    }
+    let best = champion(kind, labels, free);
+    let mut q = tie_break.len();
+    while 0 < q {
+        q -= 1;
+        if is_open(kind, labels, free, best, tie_break[q] as usize) {
+            return tie_break[q];
+        }
+    }
+    entry(tie_break, 0)
+}

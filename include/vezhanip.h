@@ -1,0 +1,89 @@
+/*
+ * Judging and carrying on walks over a plan.
+ *
+ * Plan:             8 * n bytes for n points, n from 0 to 64: one row a point,
+ *                   eight bytes a row, lowest byte first. Bit v of row u
+ *                   (value 2^v) is set when u and v are linked. Every link
+ *                   stands in both of its rows, no point is linked to itself.
+ * Walk:             up to n distinct points in the order in which they were
+ *                   placed, one byte each, each below n.
+ * Preference list:  all n points, one byte each.
+ *
+ * Lengths are in bytes. No pointer may be NULL, not even that of an empty
+ * list: give any non-null pointer there, nothing is read through it. The
+ * output list must not overlap another list of the same call.
+ */
+#ifndef VEZHANIP_H
+#define VEZHANIP_H
+
+#include <stddef.h>
+#include <stdint.h>
+
+#ifdef __cplusplus
+extern "C" {
+#endif
+
+/* Kinds of search. */
+#define VEZHANIP_GENERIC 0u
+#define VEZHANIP_BFS     1u
+#define VEZHANIP_DFS     2u
+#define VEZHANIP_LEX_BFS 3u
+#define VEZHANIP_LEX_DFS 4u
+#define VEZHANIP_MNS     5u
+
+/* The walk passes, or the carry-on is finished. */
+#define VEZHANIP_OK 0u
+
+/* Refusals. A refused call alters no list. */
+#define VEZHANIP_BAD_KIND           1u  /* kind above 5 */
+#define VEZHANIP_BAD_PLAN_SIZE      2u  /* more than 64 rows, or bytes not a multiple of eight */
+#define VEZHANIP_LINK_OUTSIDE       3u  /* a bit at or above n in some row */
+#define VEZHANIP_SELF_LINK          4u  /* a point linked to itself */
+#define VEZHANIP_ONE_WAY_LINK       5u  /* a link in one row and not in the other */
+#define VEZHANIP_WALK_TOO_LONG      6u  /* walk longer than n, or k above n */
+#define VEZHANIP_BAD_PREFERENCE     7u  /* preference list's length is not n */
+#define VEZHANIP_POINT_OUTSIDE      8u  /* a point that is n or more */
+#define VEZHANIP_POINT_TWICE        9u  /* a point twice in one list */
+#define VEZHANIP_OUTPUT_TOO_SHORT  10u  /* output list shorter than n */
+#define VEZHANIP_START_FAILS       12u  /* the first k points of the output do not pass */
+
+/*
+ * A failed walk: VEZHANIP_FAILED + 65536 * a + 256 * b + c, where a, b, c is
+ * its first fault triple: b was placed although a, placed before it, is linked
+ * to c and not to b.
+ */
+#define VEZHANIP_FAILED          16777216u
+#define VEZHANIP_HAS_FAILED(code) ((code) >= VEZHANIP_FAILED)
+#define VEZHANIP_FAULT_A(code)    ((uint8_t)((code) >> 16 & 255u))
+#define VEZHANIP_FAULT_B(code)    ((uint8_t)((code) >> 8 & 255u))
+#define VEZHANIP_FAULT_C(code)    ((uint8_t)((code) & 255u))
+
+/*
+ * Judges a walk. Answers VEZHANIP_OK, a failure, or the first refusal that
+ * applies in the order 1, 2, 3, 4, 5, 6, 8, 9. Reads both lists, writes none.
+ */
+uint32_t vezhanip_judge(uint8_t kind,
+                        const uint8_t *plan, size_t plan_len,
+                        const uint8_t *walk, size_t walk_len);
+
+/*
+ * Carries a walk on until all n points are placed. The first k bytes of the
+ * output are the walk so far. At each step, among the points that the search
+ * offers, the one that stands last in the preference list is placed.
+ *
+ * Answers VEZHANIP_OK, or the first refusal that applies in the order 1, 2, 3,
+ * 4, 5, 6, 10, 7, 8, 9, 12. Reads the plan, the preference list and
+ * output[0] to output[k - 1]. On VEZHANIP_OK output[k] to output[n - 1] are
+ * written; the bytes before and after them stay as they were.
+ */
+uint32_t vezhanip_carry_on(uint8_t kind,
+                           const uint8_t *plan, size_t plan_len,
+                           const uint8_t *preference, size_t preference_len,
+                           uint8_t *output, size_t output_len,
+                           size_t k);
+
+#ifdef __cplusplus
+}
+#endif
+
+#endif

@@ -1,0 +1,122 @@
+//! Group a: the examples of 01, with its answers.
+
+use outside::calls::{CarryOnCall, JudgeCall};
+use outside::definition::{failure_code, Kind, BFS, DFS, GENERIC, KINDS, LEX_BFS, LEX_DFS, MNS};
+use outside::graphs::plan;
+
+use crate::comparison::Comparison;
+
+struct Example {
+    size: usize,
+    links: &'static [(usize, usize)],
+    walk: &'static [u8],
+    /// These fail with the triple, the others pass.
+    failing: &'static [Kind],
+    triple: (usize, usize, usize),
+}
+
+const P: &[(usize, usize)] = &[(0, 1), (0, 2), (1, 3)];
+const C: &[(usize, usize)] = &[(0, 1), (1, 2), (2, 3), (0, 3)];
+
+const EXAMPLES: [Example; 9] = [
+    Example { size: 4, links: P, walk: &[0, 1, 2, 3], failing: &[DFS, LEX_DFS], triple: (1, 2, 3) },
+    Example { size: 4, links: P, walk: &[0, 1, 3, 2], failing: &[BFS, LEX_BFS], triple: (0, 3, 2) },
+    Example { size: 4, links: P, walk: &[2, 1], failing: &KINDS, triple: (2, 1, 0) },
+    Example { size: 4, links: C, walk: &[0, 1, 2, 3], failing: &[BFS, LEX_BFS], triple: (0, 2, 3) },
+    Example { size: 4, links: C, walk: &[0, 1, 3, 2], failing: &[DFS, LEX_DFS], triple: (1, 3, 2) },
+    Example {
+        size: 4,
+        links: &[(0, 1), (0, 2), (0, 3), (1, 3)],
+        walk: &[0, 1, 2, 3],
+        failing: &[DFS, LEX_BFS, LEX_DFS, MNS],
+        triple: (1, 2, 3),
+    },
+    Example {
+        size: 4,
+        links: &[(0, 1), (0, 3), (1, 2), (1, 3)],
+        walk: &[0, 1, 2, 3],
+        failing: &[BFS, LEX_BFS, LEX_DFS, MNS],
+        triple: (0, 2, 3),
+    },
+    Example { size: 3, links: &[(0, 1)], walk: &[0, 2], failing: &KINDS, triple: (0, 2, 1) },
+    Example { size: 3, links: &[(0, 1)], walk: &[2, 0, 1], failing: &[], triple: (0, 0, 0) },
+];
+
+pub fn compare() -> u64 {
+    let mut comparison = Comparison::new("a, examples of 01");
+    for example in &EXAMPLES {
+        for kind in KINDS {
+            let (a, b, c) = example.triple;
+            let fails = example.failing.contains(&kind);
+            let call = JudgeCall {
+                kind,
+                plan: plan(example.size, example.links),
+                walk: example.walk.to_vec(),
+            };
+            comparison.expect_judge(&call, if fails { failure_code(a, b, c) } else { 0 });
+        }
+    }
+    preferences(&mut comparison);
+    sizes(&mut comparison);
+    full_starts(&mut comparison);
+    comparison.finish()
+}
+
+/// C with the preference list 3 2 1 0 and k = 0.
+fn preferences(comparison: &mut Comparison) {
+    for (kind, written) in [(BFS, [0, 1, 3, 2]), (DFS, [0, 1, 2, 3])] {
+        let call = CarryOnCall {
+            kind,
+            plan: plan(4, C),
+            tie_break: vec![3, 2, 1, 0],
+            output: vec![77; 4],
+            k: 0,
+        };
+        comparison.expect_carry_on(&call, (0, written.to_vec()));
+    }
+}
+
+/// n = 0 passes, n = 64 is judged, 65 rows are refusal 2.
+fn sizes(comparison: &mut Comparison) {
+    let chain: Vec<(usize, usize)> = (1..64).map(|v| (v - 1, v)).collect();
+    let straight: Vec<u8> = (0..64).collect();
+    for kind in KINDS {
+        let empty = JudgeCall { kind, plan: Vec::new(), walk: Vec::new() };
+        comparison.expect_judge(&empty, 0);
+        let full = JudgeCall { kind, plan: plan(64, &chain), walk: straight.clone() };
+        comparison.expect_judge(&full, 0);
+        let mut jump = straight[..62].to_vec();
+        jump.push(63);
+        let jump = JudgeCall { walk: jump, ..full };
+        comparison.expect_judge(&jump, failure_code(61, 63, 62));
+        let too_large = JudgeCall { kind, plan: vec![0; 8 * 65], walk: Vec::new() };
+        comparison.expect_judge(&too_large, 2);
+    }
+}
+
+/// k = n passes and writes nothing.
+fn full_starts(comparison: &mut Comparison) {
+    let starts: [(Kind, [u8; 4]); 6] = [
+        (GENERIC, [0, 1, 2, 3]),
+        (BFS, [0, 1, 3, 2]),
+        (DFS, [0, 1, 2, 3]),
+        (LEX_BFS, [0, 1, 3, 2]),
+        (LEX_DFS, [0, 1, 2, 3]),
+        (MNS, [0, 1, 2, 3]),
+    ];
+    for (kind, start) in starts {
+        for beyond in [0, 3] {
+            let mut output = start.to_vec();
+            output.resize(4 + beyond, 77);
+            let unchanged = output.clone();
+            let call =
+                CarryOnCall { kind, plan: plan(4, C), tie_break: vec![3, 2, 1, 0], output, k: 4 };
+            comparison.expect_carry_on(&call, (0, unchanged));
+        }
+    }
+    let none = Vec::new;
+    for kind in KINDS {
+        let call = CarryOnCall { kind, plan: none(), tie_break: none(), output: none(), k: 0 };
+        comparison.expect_carry_on(&call, (0, none()));
+    }
+}

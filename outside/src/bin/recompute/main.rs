@@ -1,0 +1,20 @@
+//! Recomputes the library's answers from 01 and stops at the first that differs.
+//!
+//!   a   the examples of 01
+//!   b   the orderings that document 001 names
+//!   c   all small plans
+//!   d   random plans, walks and damaged inputs from a fixed seed
+
+mod comparison;
+mod document;
+mod examples;
+mod random_calls;
+mod small_plans;
+
+fn main() {
+    let calls = examples::compare()
+        + document::compare()
+        + small_plans::compare()
+        + random_calls::compare();
+    println!("all {calls} calls agree");
+}

@@ -1,0 +1,202 @@
+//! Judge and carry-on on 64-bit words, made to be fast and not proved.
+//!
+//! Sets of points are words. The offered points come from the rows of the
+//! placed points; no label is built. Nothing is allocated.
+
+mod search;
+
+use crate::definition::{Kind, BFS, DFS, LEX_BFS, LEX_DFS};
+use search::Search;
+
+const FAILED: u32 = 1 << 24;
+
+/// A valid plan.
+struct Graph {
+    rows: [u64; 64],
+    size: usize,
+}
+
+/// The set of the points 0 to n - 1.
+fn below(n: usize) -> u64 {
+    if n < 64 {
+        (1 << n) - 1
+    } else {
+        !0
+    }
+}
+
+fn holds(set: u64, v: u8) -> bool {
+    set >> (v & 63) & 1 == 1
+}
+
+/// Every link stands in both of its rows.
+fn two_way(rows: &[u64; 64], n: usize) -> bool {
+    for u in 0..n {
+        let mut neighbours = rows[u];
+        while neighbours != 0 {
+            let v = neighbours.trailing_zeros() as usize;
+            if rows[v] >> u & 1 == 0 {
+                return false;
+            }
+            neighbours &= neighbours - 1;
+        }
+    }
+    true
+}
+
+impl Graph {
+    /// Refusals 1 to 5.
+    fn read(kind: Kind, plan: &[u8]) -> Result<Graph, u32> {
+        if kind > 5 {
+            return Err(1);
+        }
+        let size = plan.len() / 8;
+        if !plan.len().is_multiple_of(8) || size > 64 {
+            return Err(2);
+        }
+        let mut rows = [0; 64];
+        let mut bits = 0;
+        let mut own = 0;
+        for (u, bytes) in plan.chunks_exact(8).enumerate() {
+            let row = u64::from_le_bytes(bytes.try_into().unwrap());
+            rows[u] = row;
+            bits |= row;
+            own |= row >> u & 1;
+        }
+        if bits & !below(size) != 0 {
+            return Err(3);
+        }
+        if own != 0 {
+            return Err(4);
+        }
+        if !two_way(&rows, size) {
+            return Err(5);
+        }
+        Ok(Graph { rows, size })
+    }
+
+    fn row(&self, v: u8) -> u64 {
+        self.rows[(v & 63) as usize]
+    }
+}
+
+fn any_outside(n: usize, list: &[u8]) -> bool {
+    list.iter().any(|&v| v as usize >= n)
+}
+
+/// A point stands twice in a list of points below 64.
+fn any_twice(list: &[u8]) -> bool {
+    let set = list.iter().fold(0u64, |set, &v| set | 1 << (v & 63));
+    set.count_ones() as usize != list.len()
+}
+
+/// The first triple whose middle point is the one at place i, which was not offered.
+fn first_violation(kind: Kind, graph: &Graph, walk: &[u8], i: usize) -> u32 {
+    let b = walk[i];
+    let set = |points: &[u8]| points.iter().fold(0u64, |set, &v| set | 1 << v);
+    let before = set(&walk[..i]);
+    let unplaced = below(graph.size) & !set(walk);
+    let mut earlier = 0;
+    for &a in &walk[..i] {
+        let row = graph.row(a);
+        let range = match kind {
+            BFS | LEX_BFS => earlier,
+            DFS | LEX_DFS => before & !earlier & !(1 << a),
+            _ => before,
+        };
+        earlier |= 1 << a;
+        if holds(row, b) {
+            continue;
+        }
+        let excuses = graph.row(b) & range;
+        let kept = if kind >= LEX_BFS { excuses } else { 0 };
+        let violated = |c: u8| holds(row, c) && excuses & !(kept & graph.row(c)) == 0;
+        let found = walk[i + 1..]
+            .iter()
+            .copied()
+            .find(|&c| violated(c))
+            .or_else(|| (0..graph.size as u8).find(|&c| holds(unplaced, c) && violated(c)));
+        if let Some(c) = found {
+            return FAILED | (a as u32) << 16 | (b as u32) << 8 | c as u32;
+        }
+    }
+    unreachable!("a point that was not offered is the middle of a triple")
+}
+
+/// The place of the first point that was not offered when it was placed.
+fn first_not_offered(search: &mut Search, walk: &[u8]) -> Option<usize> {
+    for (i, &b) in walk.iter().enumerate() {
+        if !search.is_offered(b) {
+            return Some(i);
+        }
+        search.place(b);
+    }
+    None
+}
+
+#[inline(never)]
+pub fn judge(kind: Kind, plan: &[u8], walk: &[u8]) -> u32 {
+    let graph = match Graph::read(kind, plan) {
+        Ok(graph) => graph,
+        Err(refusal) => return refusal,
+    };
+    if walk.len() > graph.size {
+        return 6;
+    }
+    if any_outside(graph.size, walk) {
+        return 8;
+    }
+    if any_twice(walk) {
+        return 9;
+    }
+    match first_not_offered(&mut Search::new(kind, &graph), walk) {
+        Some(i) => first_violation(kind, &graph, walk, i),
+        None => 0,
+    }
+}
+
+/// Refusals 6 to 10 of carry-on, in its order.
+fn lists_refusal(n: usize, tie_break: &[u8], output: &[u8], k: usize) -> Option<u32> {
+    if k > n {
+        return Some(6);
+    }
+    if output.len() < n {
+        return Some(10);
+    }
+    if tie_break.len() != n {
+        return Some(7);
+    }
+    let start = &output[..k];
+    if any_outside(n, start) || any_outside(n, tie_break) {
+        return Some(8);
+    }
+    if any_twice(start) || any_twice(tie_break) {
+        return Some(9);
+    }
+    None
+}
+
+#[inline(never)]
+pub fn carry_on(kind: Kind, plan: &[u8], tie_break: &[u8], output: &mut [u8], k: usize) -> u32 {
+    let graph = match Graph::read(kind, plan) {
+        Ok(graph) => graph,
+        Err(refusal) => return refusal,
+    };
+    if let Some(refusal) = lists_refusal(graph.size, tie_break, output, k) {
+        return refusal;
+    }
+    let mut search = Search::new(kind, &graph);
+    if first_not_offered(&mut search, &output[..k]).is_some() {
+        return 12;
+    }
+    let mut rank = [0; 64];
+    for (i, &v) in tie_break.iter().enumerate() {
+        rank[v as usize] = i as u8;
+    }
+    for next in &mut output[k..graph.size] {
+        let v = search.last_offered(tie_break, &rank);
+        search.place(v);
+        *next = v;
+    }
+    0
+}

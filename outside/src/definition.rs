@@ -1,0 +1,294 @@
+//! The definitions of 01, computed as they read, by trying everything.
+//!
+//!   Graph                       a plan: one row of 64 bits for each point          [01: plan]
+//!   linked u v                  bit v of row u is set                              [01: linked]
+//!   label ordering v            which places hold a neighbour of v                 [01: label]
+//!   outranks kind c b           a point with label c is ahead of one with label b  [01: ahead]
+//!   offered kind ordering       the points that may come next                      [01: offered]
+//!   begins_run kind ordering    each point was offered when it was placed          [01: a run begins with a walk]
+//!   is_violation kind a b c     a, b, c stand in the fault relation                [01: fault triples]
+//!   first_violation kind        the first of them                                  [01: first triple]
+//!   judge, carry_on             the two calls, as the firmware sees them           [01: the calls]
+
+/// A point's number.
+pub type Vertex = usize;
+/// A place in a walk.
+pub type Position = usize;
+/// Which of the six searches.
+pub type Kind = u8;
+
+pub const GENERIC: Kind = 0;
+pub const BFS: Kind = 1;
+pub const DFS: Kind = 2;
+pub const LEX_BFS: Kind = 3;
+pub const LEX_DFS: Kind = 4;
+pub const MNS: Kind = 5;
+
+pub const KINDS: [Kind; 6] = [GENERIC, BFS, DFS, LEX_BFS, LEX_DFS, MNS];
+pub const KIND_NAMES: [&str; 6] = ["Generic", "BFS", "DFS", "LexBFS", "LexDFS", "MNS"];
+
+/// What C gets for the triple 0, 0, 0.
+pub const FAILED: u32 = 16_777_216;
+
+pub struct Graph {
+    rows: Vec<u64>,
+}
+
+impl Graph {
+    /// The rows in `plan`, eight bytes each, lowest first.
+    pub fn from_plan(plan: &[u8]) -> Graph {
+        let row = |bytes: &[u8]| (0..8).map(|i| (bytes[i] as u64) << (8 * i)).sum();
+        Graph { rows: plan.chunks_exact(8).map(row).collect() }
+    }
+
+    pub fn size(&self) -> usize {
+        self.rows.len()
+    }
+
+    pub fn linked(&self, u: Vertex, v: Vertex) -> bool {
+        self.rows[u] >> v & 1 == 1
+    }
+
+    fn vertices(&self) -> std::ops::Range<Vertex> {
+        0..self.size()
+    }
+}
+
+// ---- Which point may be next ----
+
+/// For each place of the walk, whether a neighbour of v stands there.
+pub fn label(graph: &Graph, ordering: &[u8], v: Vertex) -> Vec<bool> {
+    ordering.iter().map(|&u| graph.linked(u as Vertex, v)).collect()
+}
+
+fn smallest(label: &[bool]) -> Option<Position> {
+    (0..label.len()).find(|&p| label[p])
+}
+
+fn largest(label: &[bool]) -> Option<Position> {
+    (0..label.len()).rev().find(|&p| label[p])
+}
+
+/// A point with label c is ahead of one with label b.
+pub fn outranks(kind: Kind, c: &[bool], b: &[bool]) -> bool {
+    let in_just_one = |p: &Position| c[*p] != b[*p];
+    match kind {
+        GENERIC => smallest(c).is_some() && smallest(b).is_none(),
+        BFS => match (smallest(c), smallest(b)) {
+            (Some(of_c), Some(of_b)) => of_c < of_b,
+            (Some(_), None) => true,
+            (None, _) => false,
+        },
+        DFS => match (largest(c), largest(b)) {
+            (Some(of_c), Some(of_b)) => of_c > of_b,
+            (Some(_), None) => true,
+            (None, _) => false,
+        },
+        LEX_BFS => (0..c.len()).find(in_just_one).is_some_and(|p| c[p]),
+        LEX_DFS => (0..c.len()).rev().find(in_just_one).is_some_and(|p| c[p]),
+        MNS => b != c && (0..b.len()).all(|p| !b[p] || c[p]),
+        _ => unreachable!("no such kind"),
+    }
+}
+
+/// The unplaced points that no other unplaced point is ahead of, ascending.
+pub fn offered(kind: Kind, graph: &Graph, ordering: &[u8]) -> Vec<Vertex> {
+    let unplaced = |v: &Vertex| !ordering.contains(&(*v as u8));
+    let labelled: Vec<(Vertex, Vec<bool>)> =
+        graph.vertices().filter(unplaced).map(|v| (v, label(graph, ordering, v))).collect();
+    let none_ahead = |b: &[bool]| !labelled.iter().any(|(_, c)| outranks(kind, c, b));
+    labelled.iter().filter(|(_, b)| none_ahead(b)).map(|(v, _)| *v).collect()
+}
+
+/// Each point of the walk was offered when it was placed.
+pub fn begins_run(kind: Kind, graph: &Graph, ordering: &[u8]) -> bool {
+    let was_offered =
+        |i: Position| offered(kind, graph, &ordering[..i]).contains(&(ordering[i] as Vertex));
+    (0..ordering.len()).all(was_offered)
+}
+
+// ---- Fault triples ----
+
+/// Where each point stands in the walk.
+struct Places(Vec<Option<Position>>);
+
+impl Places {
+    fn of(graph: &Graph, ordering: &[u8]) -> Places {
+        let place = |v: Vertex| ordering.iter().position(|&u| u as Vertex == v);
+        Places(graph.vertices().map(place).collect())
+    }
+
+    fn placed(&self, v: Vertex) -> bool {
+        self.0[v].is_some()
+    }
+
+    /// Both are placed, u before v.
+    fn before(&self, u: Vertex, v: Vertex) -> bool {
+        matches!((self.0[u], self.0[v]), (Some(p), Some(q)) if p < q)
+    }
+
+    /// Placed points go by place and come before unplaced ones, which go by number.
+    fn rank(&self, v: Vertex) -> (bool, usize) {
+        match self.0[v] {
+            Some(p) => (false, p),
+            None => (true, v),
+        }
+    }
+}
+
+fn is_violation(
+    kind: Kind,
+    graph: &Graph,
+    places: &Places,
+    (a, b, c): (Vertex, Vertex, Vertex),
+) -> bool {
+    let excuses = |d: Vertex| {
+        graph.linked(d, b)
+            && places.before(d, b)
+            && match kind {
+                GENERIC => true,
+                BFS => places.before(d, a),
+                DFS => places.before(a, d),
+                LEX_BFS => places.before(d, a) && !graph.linked(d, c),
+                LEX_DFS => places.before(a, d) && !graph.linked(d, c),
+                MNS => !graph.linked(d, c),
+                _ => unreachable!("no such kind"),
+            }
+    };
+    places.before(a, b)
+        && (places.before(b, c) || !places.placed(c))
+        && graph.linked(a, c)
+        && !graph.linked(a, b)
+        && !graph.vertices().any(excuses)
+}
+
+/// The triple with the earliest b, then the earliest a, then the first c.
+pub fn first_violation(
+    kind: Kind,
+    graph: &Graph,
+    ordering: &[u8],
+) -> Option<(Vertex, Vertex, Vertex)> {
+    let places = Places::of(graph, ordering);
+    let mut violations = Vec::new();
+    for a in graph.vertices() {
+        for b in graph.vertices() {
+            for c in graph.vertices() {
+                if is_violation(kind, graph, &places, (a, b, c)) {
+                    violations.push((a, b, c));
+                }
+            }
+        }
+    }
+    violations.into_iter().min_by_key(|&(a, b, c)| (places.rank(b), places.rank(a), places.rank(c)))
+}
+
+// ---- Refusals ----
+
+type Test<'a> = (u32, &'a dyn Fn() -> bool);
+
+/// The number of the first test that holds; the later ones are not tried.
+fn first_of(tests: &[Test]) -> Option<u32> {
+    tests.iter().find(|(_, holds)| holds()).map(|(number, _)| *number)
+}
+
+fn point_outside(n: usize, list: &[u8]) -> bool {
+    list.iter().any(|&v| v as usize >= n)
+}
+
+fn point_twice(list: &[u8]) -> bool {
+    (0..list.len()).any(|i| list[..i].contains(&list[i]))
+}
+
+/// Refusals 1 to 5.
+fn plan_refusal(kind: Kind, plan: &[u8]) -> Option<u32> {
+    let graph = Graph::from_plan(plan);
+    let n = graph.size();
+    let bit_outside = |u: Vertex| (n..64).any(|v| graph.linked(u, v));
+    let one_way = |u: Vertex| (0..n).any(|v| graph.linked(u, v) && !graph.linked(v, u));
+    first_of(&[
+        (1, &|| kind > 5),
+        (2, &|| n > 64 || !plan.len().is_multiple_of(8)),
+        (3, &|| (0..n).any(bit_outside)),
+        (4, &|| (0..n).any(|u| graph.linked(u, u))),
+        (5, &|| (0..n).any(one_way)),
+    ])
+}
+
+fn judge_refusal(kind: Kind, plan: &[u8], walk: &[u8]) -> Option<u32> {
+    let n = plan.len() / 8;
+    let walk_refusal = || {
+        first_of(&[
+            (6, &|| walk.len() > n),
+            (8, &|| point_outside(n, walk)),
+            (9, &|| point_twice(walk)),
+        ])
+    };
+    plan_refusal(kind, plan).or_else(walk_refusal)
+}
+
+fn carry_on_refusal(
+    kind: Kind,
+    plan: &[u8],
+    tie_break: &[u8],
+    output: &[u8],
+    k: usize,
+) -> Option<u32> {
+    let n = plan.len() / 8;
+    let fails = || first_violation(kind, &Graph::from_plan(plan), &output[..k]).is_some();
+    let list_refusal = || {
+        first_of(&[
+            (6, &|| k > n),
+            (10, &|| output.len() < n),
+            (7, &|| tie_break.len() != n),
+            (8, &|| point_outside(n, &output[..k])),
+            (8, &|| point_outside(n, tie_break)),
+            (9, &|| point_twice(&output[..k])),
+            (9, &|| point_twice(tie_break)),
+            (12, &fails),
+        ])
+    };
+    plan_refusal(kind, plan).or_else(list_refusal)
+}
+
+// ---- The calls ----
+
+/// What C gets for a failed walk.
+pub fn failure_code(a: Vertex, b: Vertex, c: Vertex) -> u32 {
+    FAILED + 65_536 * a as u32 + 256 * b as u32 + c as u32
+}
+
+pub fn judge(kind: Kind, plan: &[u8], walk: &[u8]) -> u32 {
+    if let Some(number) = judge_refusal(kind, plan, walk) {
+        return number;
+    }
+    match first_violation(kind, &Graph::from_plan(plan), walk) {
+        Some((a, b, c)) => failure_code(a, b, c),
+        None => 0,
+    }
+}
+
+/// The answer, and the output list as it is afterwards.
+pub fn carry_on(
+    kind: Kind,
+    plan: &[u8],
+    tie_break: &[u8],
+    output: &[u8],
+    k: usize,
+) -> (u32, Vec<u8>) {
+    if let Some(number) = carry_on_refusal(kind, plan, tie_break, output, k) {
+        return (number, output.to_vec());
+    }
+    let graph = Graph::from_plan(plan);
+    let mut ordering = output[..k].to_vec();
+    while ordering.len() < graph.size() {
+        let offered = offered(kind, &graph, &ordering);
+        let last = tie_break.iter().rfind(|&&v| offered.contains(&(v as Vertex)));
+        ordering.push(*last.expect("some point is always offered"));
+    }
+    let mut after = output.to_vec();
+    after[..ordering.len()].copy_from_slice(&ordering);
+    (0, after)
+}
+
+#[cfg(test)]
+mod tests;
