@@ -4,3 +4,4 @@ pub mod Count
 pub mod Sets
 pub mod Word
 pub mod WordOrder
+pub mod Scan

@@ -65,6 +65,13 @@ pub fn smallest(set: u64) -> usize
     u64::trailing_zeros(set) as usize
 }
 
+// The set without its smallest number; the empty set where it has none.
+pub fn without_smallest(set: u64) -> u64
+    ensures { λ r. ⌜ r ≡ removed set (firstBelow 64 (member set)) ⌝ }
+{
+    if set == 0 { 0 } else { set & (set - 1) }
+}
+
 // The least number above all of the set: one more than its largest; 0 where it is empty.
 pub fn upper_bound(set: u64) -> usize
     ensures { λ r. ⌜ r ≡ upperBound set ⌝ }

@@ -1,4 +1,3 @@
 pub mod Passed
-pub mod OneWay
 pub mod Seen
 pub mod Tried

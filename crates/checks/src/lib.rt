@@ -8,7 +8,7 @@ ghost use Rattle.searches.specs.Ordering.{at};
 ghost use Rattle.searches.specs.Answer.{bitOutside, selfLoop, oneWay, vertexOutside};
 ghost use Rattle.searches.specs.Answer.{openTests, judgeTests, listTests, firstRefusal, refusalOf};
 ghost use Rattle.searches.specs.Answer as answer;
-ghost use Rattle.checks.specs.OneWay.{apart};
+ghost use Rattle.checks.specs.OneWay.{unanswered};
 use searches::Kind;
 use searches::Outcome;
 use searches::Refusal;
@@ -39,27 +39,30 @@ fn self_loop(rows: &[u64]) -> bool
     false
 }
 
-// Whether `u` and some smaller vertex are linked in one of their rows only.
-fn one_way_below(rows: &[u64], u: usize) -> bool
+// Whether `u` has an arc to a vertex that has none back. Only the arcs of `u` are looked at.
+fn one_way_from(rows: &[u64], u: usize) -> bool
     requires { ⌜ u < length (now rows) ⌝ }
-    ensures { λ r. ⌜ r ≡ anyBelow u (apart (now (rows .entry)) u) ⌝ }
+    ensures { λ r. ⌜ r ≡ anyBelow (length (now (rows .entry))) (unanswered (now (rows .entry)) u) ⌝ }
 {
-    let row = rows[u];
-    for v in 0..u {
-        if bitset::contains(row, v) != bitset::contains(rows[v], u) {
+    let n = rows.len();
+    let mut rest = rows[u];
+    while rest != 0 {
+        let v = bitset::smallest(rest);
+        if v < n && !bitset::contains(rows[v], u) {
             return true;
         }
+        rest = bitset::without_smallest(rest);
     }
     false
 }
 
-// Whether some link stands in one row only. Each pair of vertices is looked at once.
+// Whether some arc has none back.
 fn one_way(rows: &[u64]) -> bool
     ensures { λ r. ⌜ r ≡ oneWay (now (rows .entry)) ⌝ }
 {
     let n = rows.len();
     for u in 0..n {
-        if one_way_below(rows, u) {
+        if one_way_from(rows, u) {
             return true;
         }
     }

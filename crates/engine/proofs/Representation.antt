@@ -1,7 +1,7 @@
 -- The words hold the labels and the unplaced vertices of searches/, and what is computed on them is what is defined there.
 --   suc-split                                the positions below one more
 --   cut-same, cut-below                      a set that ends at a bound;   outranks-cut   it is compared below it
---   spread-length, spread-at, spread-above   a position put into the labels of the vertices of a row
+--   spread-length, spread-at                 a position put into the labels of the vertices of a row
 --   member-joined                            what is then in one label
 --   labels-length, label-members             labelsAfter: 64 words, which hold the labels
 --   free-word, free-members                  freeAfter: a word, which holds the unplaced vertices;   free-unplaced, free-vertex
@@ -29,6 +29,7 @@ use Rattle.searches.specs.Violation.{excuses}
 use Rattle.searches.proofs.Reason.{Reason, outranks→reason, reason→outranks}
 use Rattle.searches.proofs.Ordering.{ordering-fits}
 use Rattle.labels.specs.Words.{aheadIn, joinedIn, spreadTo, beatenIn, openIn}
+use Rattle.labels.proofs.Spreading.{spread-above}
 use Rattle.engine.specs.Steps.{labelsAfter, freeAfter}
 
 -- ---- laws of tests
@@ -109,11 +110,6 @@ module _ (row p : ℕ) (labels : List ℕ) where
   spread-length zero = refl
   spread-length (suc i) = length-set (spreadTo row p i labels) i _ ∙ spread-length i
 
-  pub spread-above : (i v : ℕ) → i ≤ v → getD (spreadTo row p i labels) v 0 ≡ getD labels v 0
-  unfolding spreadTo
-  spread-above zero v l = refl
-  spread-above (suc i) v l = getD-set-other (spreadTo row p i labels) i v _ 0 (omega arith) ∙ spread-above i v (omega arith)
-
   pub spread-at : (i v : ℕ) → i ≤ length labels → v < i → getD (spreadTo row p i labels) v 0 ≡ joinedIn row p v (getD labels v 0)
   unfolding spreadTo
   spread-at zero v h l = absurd (omega arith)
@@ -124,7 +120,7 @@ module _ (row p : ℕ) (labels : List ℕ) where
       go rest (inl g) = getD-set-other (spreadTo row p i labels) i v _ 0 (omega arith) ∙ rest g
       go rest (inr e) =
           subst (λ (x : ℕ). getD (spreadTo row p (suc i) labels) x 0 ≡ joinedIn row p x (getD labels x 0)) (sym e)
-          (getD-set-same (spreadTo row p i labels) i _ 0 (omega (arith, spread-length i)) ∙ ap (joinedIn row p i) (spread-above i i (omega arith)))
+          (getD-set-same (spreadTo row p i labels) i _ 0 (omega (arith, spread-length i)) ∙ ap (joinedIn row p i) (spread-above row p labels i i (omega arith)))
 
 -- ---- the labels, and the unplaced vertices
 

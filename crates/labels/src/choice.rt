@@ -12,13 +12,13 @@ fn champion(kind: Kind, labels: &[u64; 64], free: u64) -> usize
     ensures { λ r. ⌜ Champion (searchOf (kind .0)) (now (labels .entry)) free r ⌝ }
 {
     let mut best = bitset::smallest(free);
-    let mut rest = bitset::remove(free, best);
+    let mut rest = bitset::without_smallest(free);
     while rest != 0 {
         let u = bitset::smallest(rest);
         if crate::is_ahead(kind, labels[u], labels[best]) {
             best = u;
         }
-        rest = bitset::remove(rest, u);
+        rest = bitset::without_smallest(rest);
     }
     best
 }

@@ -71,8 +71,13 @@ pub fn spread(labels: &mut [u64; 64], row: u64, position: Position, n: usize)
     ensures { λ r. ⌜ now (labels .exit) ≡ spreadTo row (position .0) n (now (labels .entry)) ⌝ }
 {
     let p = position.0;
-    for v in 0..n {
-        labels[v] = joined(labels[v], row, v, p);
+    let mut rest = row;
+    while rest != 0 {
+        let v = bitset::smallest(rest);
+        if v < n {
+            labels[v] = joined(labels[v], row, v, p);
+        }
+        rest = bitset::without_smallest(rest);
     }
 }
 
@@ -86,7 +91,7 @@ pub fn is_beaten(kind: Kind, labels: &[u64; 64], free: u64, mine: u64) -> bool
         if is_ahead(kind, labels[u], mine) {
             return true;
         }
-        rest = bitset::remove(rest, u);
+        rest = bitset::without_smallest(rest);
     }
     false
 }

@@ -1,17 +1,17 @@
--- `checks::one_way` meets its contract: no vertex that was passed is apart from a smaller one.
+-- `checks::one_way` meets its contract: no vertex that was passed has an arc with none back.
 -- Assumes nothing.
 use mathlib.Core.Path.{sym, _∙_}
 use Prim.Native.Nat.{_-_}
 use native.Mathlib.Omega.{arith}
 use Rattle.bitset.specs.Below.{anyBelow}
-use Rattle.checks.specs.OneWay.{apart}
-use Rattle.checks.proofs.OneWay.{one-way-once}
+use Rattle.searches.specs.Answer.{oneWay}
+use Rattle.checks.specs.OneWay.{unanswered}
 use Rattle.checks.proofs.Passed.{Passed, passed-start, passed-more, found, none-found}
 use Rattle.checks.proofs.one_way.Statement.{statement}
 use Rattle.checks.proofs.one_way.Tie as tie
 
 abbrev Inv-loop : tie.InvT-loop
-Inv-loop rows n u₀ u = Passed n (λ u. anyBelow u (apart rows u)) u
+Inv-loop rows n u₀ u = Passed n (λ u. anyBelow n (unanswered rows u)) u
 
 abbrev μ-loop : tie.MeasureT-loop
 μ-loop rows n u₀ u = n - u
@@ -19,11 +19,12 @@ abbrev μ-loop : tie.MeasureT-loop
 loop-holds : tie.Need-loop-holds Inv-loop μ-loop
 loop-holds c = passed-start _ _
 
-one-way-below-requires : tie.Need-one-way-below-requires Inv-loop μ-loop
-one-way-below-requires c κs = omega arith
+one-way-from-requires : tie.Need-one-way-from-requires Inv-loop μ-loop
+one-way-from-requires c κs = omega arith
 
 returns : tie.Need-returns Inv-loop μ-loop
-returns c = found _ _ (c .before .before .loop-test .taken) (sym (c .before .one-way-below .ensures) ∙ c .if1 .taken) ∙ sym (one-way-once _)
+unfolding oneWay unanswered
+returns c = found _ _ (c .before .before .loop-test .taken) (sym (c .before .one-way-from .ensures) ∙ c .if1 .taken)
 
 add-u : tie.Need-add-u Inv-loop μ-loop
 add-u c = omega arith
@@ -34,10 +35,11 @@ loop-less c = omega arith
 loop-again : tie.Need-loop-again Inv-loop μ-loop
 loop-again c =
     let turn = c .before .before in
-    passed-more (turn .before .loop .inv) (turn .loop-test .taken) (sym (c .before .one-way-below .ensures) ∙ c .if1 .left)
+    passed-more (turn .before .loop .inv) (turn .loop-test .taken) (sym (c .before .one-way-from .ensures) ∙ c .if1 .left)
 
 returns-2 : tie.Need-returns-2 Inv-loop μ-loop
-returns-2 c = none-found (c .before .loop .inv) (c .loop-test .left) ∙ sym (one-way-once _)
+unfolding oneWay unanswered
+returns-2 c = none-found (c .before .loop .inv) (c .loop-test .left)
 
 pub one-way-spec : {M : Type 1} → statement M
 one-way-spec =
@@ -46,7 +48,7 @@ one-way-spec =
     Inv-loop
     μ-loop
     loop-holds
-    one-way-below-requires
+    one-way-from-requires
     returns
     add-u
     loop-less

@@ -1,66 +1,90 @@
--- `labels::spread` meets its contract: after v turns the labels below v are spread.
+-- `labels::spread` meets its contract: what is left of the row makes of the labels what the row makes of them at the start. The measure is the
+-- word that is left.
 -- Assumes nothing.
-use Prim.Native.Nat.{ℕ, _≤_, _-_}
-use mathlib.Core.Path.{_≡_, sym, ap, _∙_, subst}
+use Prim.Native.Nat.{ℕ, _<_}
+use mathlib.Core.Path.{sym, ap, _∙_, subst}
+use mathlib.Core.Logic.{⊎-elim}
 use mathlib.Core.List.{List}
-use native.Mathlib.Numerals.{add-one}
-use lib.ListN.{getD, set}
+use lib.Dec.{T}
+use lib.ListN.{set}
 use native.Mathlib.Omega.{arith}
 use borrow.Author.Needs.{needs}
-use Rattle.labels.specs.Words.{joinedIn, spreadTo}
+use Rattle.bitset.specs.Word.{member, removed}
+use Rattle.bitset.proofs.Scan.{first-member, removed-less, taken-out}
+use Rattle.labels.proofs.Spreading.{Spreading, spread-start, spread-next, spread-past, spread-end}
 use Rattle.labels.proofs.spread.Statement.{statement}
 use Rattle.labels.proofs.spread.Tie as tie
 use Rattle.labels.proofs.spread.Reads as reads
 use Rattle.labels.proofs.spread.Lts as lts
+use Rattle.bitset.proofs.smallest.Reads as smallest-reads
 use Rattle.labels.proofs.joined.Reads as joined-reads
+use Rattle.bitset.proofs.without_smallest.Reads as without-smallest-reads
 
 abbrev Inv-loop : tie.InvT-loop
-Inv-loop labels₀ row n p v₀ labels v = (v ≤ n) × (labels ≡ spreadTo row p v labels₀)
+Inv-loop labels₀ row n p rest₀ labels rest = Spreading row p n labels₀ labels rest
 
 abbrev μ-loop : tie.MeasureT-loop
-μ-loop labels₀ row n p v₀ labels v = n - v
+μ-loop labels₀ row n p rest₀ labels rest = rest
+
+-- the smallest number of what is left is in it
+found : (c : lts.After-smallest (smallest-reads.Asked, smallest-reads.Learnt, joined-reads.Asked, joined-reads.Learnt, without-smallest-reads.Asked, without-smallest-reads.Learnt) reads.Pre reads.Post Inv-loop μ-loop)
+    → (c .smallest .result < 64) × T (member (c .before .before .loop .rest) (c .smallest .result))
+found c =
+    let rest = c .before .before .loop .rest in
+    subst (λ (v : ℕ). (v < 64) × T (member rest v)) (sym (c .smallest .ensures)) (first-member rest (c .before .before .loop .inv .word) (omega arith))
 
 loop-holds : tie.Need-loop-holds Inv-loop μ-loop
-unfolding spreadTo
-loop-holds c = search needs
+loop-holds c = spread-start (c .args .row) (c .args .position .0) (c .args .n) (c .args .labels .now) (c .fits .row .fits)
+
+smallest-requires : tie.Need-smallest-requires Inv-loop μ-loop
+smallest-requires c κs = search needs
 
 mul-joined : tie.Need-mul-joined Inv-loop μ-loop
-mul-joined c = search needs
+mul-joined c = omega (arith, found (c .before) .0)
 
 element-copy-out-joined : tie.Need-element-copy-out-joined Inv-loop μ-loop
-element-copy-out-joined c = search needs
+element-copy-out-joined c = found (c .before) .0
 
 joined-requires : tie.Need-joined-requires Inv-loop μ-loop
-joined-requires c κs = search needs
+joined-requires c κs = let l = found (c .before .before) .0 in search needs
 
 mul-labels : tie.Need-mul-labels Inv-loop μ-loop
-mul-labels c = search needs
+mul-labels c = omega (arith, found (c .before .before .before) .0)
 
 element-write-labels : tie.Need-element-write-labels Inv-loop μ-loop
-element-write-labels c = search needs
+element-write-labels c = found (c .before .before .before) .0
 
-add-v : tie.Need-add-v Inv-loop μ-loop
-add-v c = search needs
+without-smallest-requires : tie.Need-without-smallest-requires Inv-loop μ-loop
+without-smallest-requires c κs = search needs
 
 loop-less : tie.Need-loop-less Inv-loop μ-loop
-loop-less c = search needs
+loop-less c =
+    let n = c .before .before in
+    let l = n .before .before in
+    subst (λ (x : ℕ). x < l .loop .rest) (sym (taken-out (l .loop .rest) (c .without-smallest .ensures) (n .smallest .ensures))) (removed-less (l .loop .rest) (n .smallest .result) (l .loop .inv .word) (found n .1))
 
 loop-again : tie.Need-loop-again Inv-loop μ-loop
-unfolding spreadTo
 loop-again c =
-    let l = c .before .before .before in
+    let n = c .before .before in
+    let l = n .before .before in
     let a = l .before .args in
-    let v = l .loop .v in (
-      omega arith,
-      subst (λ (m : ℕ). set (l .loop .labels) v (c .joined .result) ≡ spreadTo (a .row) (a .position .0) m (a .labels .now)) (sym (add-one v))
-          (ap (λ (x : ℕ). set (l .loop .labels) v x) (c .joined .ensures)
-          ∙ ap (λ (ls : List ℕ). set ls v (joinedIn (a .row) (a .position .0) v (getD ls v 0))) (l .loop .inv .1)),
-    )
+    let v = n .smallest .result in
+    subst (λ (x : ℕ). Spreading (a .row) (a .position .0) (a .n) (a .labels .now) (c .before .if1 .labels) x) (sym (taken-out (l .loop .rest) (c .without-smallest .ensures) (n .smallest .ensures)))
+    (⊎-elim
+    (λ x.
+    subst (λ (ls : List ℕ). Spreading (a .row) (a .position .0) (a .n) (a .labels .now) ls (removed (l .loop .rest) v))
+    (sym (x .3 ∙ ap (λ (y : ℕ). set (l .loop .labels) v y) (x .2 .ensures)))
+    (spread-next (a .row) (a .position .0) (a .n) (a .labels .now) (l .loop .labels) (l .loop .rest) (l .loop .inv) v (found n .1) (x .0 .taken)))
+    (λ x.
+    subst (λ (ls : List ℕ). Spreading (a .row) (a .position .0) (a .n) (a .labels .now) ls (removed (l .loop .rest) v)) (sym (x .1))
+    (spread-past (a .row) (a .position .0) (a .n) (a .labels .now) (l .loop .labels) (l .loop .rest) (l .loop .inv) v (x .0 .left)))
+    (c .before .if1 .came))
 
 returns : tie.Need-returns Inv-loop μ-loop
 returns c =
     let a = c .before .before .args in
-    c .before .loop .inv .1 ∙ ap (λ (m : ℕ). spreadTo (a .row) (a .position .0) m (a .labels .now)) (let e : c .before .loop .v ≡ a .n = omega arith in e)
+    spread-end (a .row) (a .position .0) (a .n) (a .labels .now) (c .before .loop .labels)
+    (subst (λ (x : ℕ). Spreading (a .row) (a .position .0) (a .n) (a .labels .now) (c .before .loop .labels) x) (c .loop-test .left) (c .before .loop .inv))
 
 pub spread-spec : {M : Type 1} → statement M
 spread-spec =
@@ -69,12 +93,13 @@ spread-spec =
     Inv-loop
     μ-loop
     loop-holds
+    smallest-requires
     mul-joined
     element-copy-out-joined
     joined-requires
     mul-labels
     element-write-labels
-    add-v
+    without-smallest-requires
     loop-less
     loop-again
     returns)
