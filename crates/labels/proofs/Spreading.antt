@@ -17,7 +17,7 @@ use lib.Dec.{T}
 use lib.ListN.{getD, set}
 use lib.Seq.{getD-set-other, set-getD, set-comm}
 use Rattle.bitset.specs.Word.{member, inserted, removed}
-use Rattle.bitset.proofs.Tests.{is-true, cond-no, below-suc}
+use Rattle.bitset.proofs.Tests.{cond-yes, cond-no, below-suc}
 use Rattle.bitset.proofs.Scan.{removed-in, removed-other}
 use Rattle.bitset.proofs.Word as word
 use Rattle.labels.specs.Words.{joinedIn, spreadTo}
@@ -87,27 +87,26 @@ module _ (p : ℕ) (labels : List ℕ) where
 module _ (row p n : ℕ) (before : List ℕ) where
   pub record Spreading (labels : List ℕ) (rest : ℕ) : Type 0 where
     pub word : rest < 2 ^ 64
-    pub part : (v : ℕ) → T (member rest v) → T (member row v)
     pub left : spreadTo rest p n labels ≡ spreadTo row p n before
 
   pub spread-start : row < 2 ^ 64 → Spreading before row
-  spread-start h = record { word = h; part = λ v t. t; left = refl }
+  spread-start h = record { word = h; left = refl }
 
   -- v is taken out of what is left, if that leaves the same to make
   taken-out : (labels labels′ : List ℕ) (rest v : ℕ) → Spreading labels rest → spreadTo (removed rest v) p n labels′ ≡ spreadTo rest p n labels
       → Spreading labels′ (removed rest v)
   taken-out labels labels′ rest v r e = record {
     word = word.removed-word (r .word) v;
-    part = λ u t. r .part u (removed-in rest v u t .1);
     left = e ∙ r .left;
   }
 
   pub spread-next : (labels : List ℕ) (rest : ℕ) → Spreading labels rest → (v : ℕ) → T (member rest v) → v < n
-      → Spreading (set labels v (joinedIn row p v (getD labels v 0))) (removed rest v)
+      → Spreading (set labels v (inserted (getD labels v 0) p)) (removed rest v)
+  unfolding joinedIn
   spread-next labels rest r v t l =
-      let in-both = is-true (member row v) (r .part v t) ∙ sym (is-true (member rest v) t) in
-      taken-out labels (set labels v (joinedIn row p v (getD labels v 0))) rest v r
-      (ap (λ (x : ℕ). spreadTo (removed rest v) p n (set labels v x)) (joined-same row rest p v (getD labels v 0) in-both) ∙ spread-one p labels rest v n l)
+      let old = getD labels v 0 in
+      taken-out labels (set labels v (inserted old p)) rest v r
+      (ap (λ (x : ℕ). spreadTo (removed rest v) p n (set labels v x)) (sym (cond-yes (member rest v) (inserted old p) old t)) ∙ spread-one p labels rest v n l)
 
   pub spread-past : (labels : List ℕ) (rest : ℕ) → Spreading labels rest → (v : ℕ) → n ≤ v → Spreading labels (removed rest v)
   spread-past labels rest r v l = taken-out labels labels rest v r (spread-beyond p labels rest v n l)

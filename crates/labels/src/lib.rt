@@ -5,9 +5,9 @@ pub mod choice;
 use searches::Kind;
 use searches::Position;
 ghost use mathlib.Core.Path.{_≡_};
-ghost use Prim.Native.Nat.{_<_, _≤_};
+ghost use Prim.Native.Nat.{_<_};
 ghost use Rattle.searches.specs.Kind.{searchOf};
-ghost use Rattle.labels.specs.Words.{aheadIn, unexcusedIn, joinedIn, spreadTo, beatenIn};
+ghost use Rattle.labels.specs.Words.{aheadIn, unexcusedIn, spreadTo, beatenIn};
 
 // Whether label `c` is ahead of label `b`.
 pub fn is_ahead(kind: Kind, c: u64, b: u64) -> bool
@@ -57,17 +57,8 @@ pub fn is_unexcused(kind: Kind, position: Position, c: u64, b: u64) -> bool
     b == 0
 }
 
-// The label of `v` after a vertex with the arcs of `row` was placed at `position`.
-fn joined(label: u64, row: u64, v: usize, position: usize) -> u64
-    requires { ⌜ (v < 64) × (position < 64) ⌝ }
-    ensures { λ r. ⌜ r ≡ joinedIn row position v label ⌝ }
-{
-    label | (((row >> v) & 1) << position)
-}
-
 // Puts `position` into the labels of the vertices below `n` that `row` leads to.
 pub fn spread(labels: &mut [u64; 64], row: u64, position: Position, n: usize)
-    requires { ⌜ (n ≤ 64) × (position .0 < 64) ⌝ }
     ensures { λ r. ⌜ now (labels .exit) ≡ spreadTo row (position .0) n (now (labels .entry)) ⌝ }
 {
     let p = position.0;
@@ -75,7 +66,7 @@ pub fn spread(labels: &mut [u64; 64], row: u64, position: Position, n: usize)
     while rest != 0 {
         let v = bitset::smallest(rest);
         if v < n {
-            labels[v] = joined(labels[v], row, v, p);
+            labels[v] = bitset::insert(labels[v], p);
         }
         rest = bitset::without_smallest(rest);
     }

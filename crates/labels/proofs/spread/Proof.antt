@@ -17,7 +17,7 @@ use Rattle.labels.proofs.spread.Tie as tie
 use Rattle.labels.proofs.spread.Reads as reads
 use Rattle.labels.proofs.spread.Lts as lts
 use Rattle.bitset.proofs.smallest.Reads as smallest-reads
-use Rattle.labels.proofs.joined.Reads as joined-reads
+use Rattle.bitset.proofs.insert.Reads as insert-reads
 use Rattle.bitset.proofs.without_smallest.Reads as without-smallest-reads
 
 abbrev Inv-loop : tie.InvT-loop
@@ -27,7 +27,7 @@ abbrev μ-loop : tie.MeasureT-loop
 μ-loop labels₀ row n p rest₀ labels rest = rest
 
 -- the smallest number of what is left is in it
-found : (c : lts.After-smallest (smallest-reads.Asked, smallest-reads.Learnt, joined-reads.Asked, joined-reads.Learnt, without-smallest-reads.Asked, without-smallest-reads.Learnt) reads.Pre reads.Post Inv-loop μ-loop)
+found : (c : lts.After-smallest (smallest-reads.Asked, smallest-reads.Learnt, insert-reads.Asked, insert-reads.Learnt, without-smallest-reads.Asked, without-smallest-reads.Learnt) reads.Pre reads.Post Inv-loop μ-loop)
     → (c .smallest .result < 64) × T (member (c .before .before .loop .rest) (c .smallest .result))
 found c =
     let rest = c .before .before .loop .rest in
@@ -39,14 +39,14 @@ loop-holds c = spread-start (c .args .row) (c .args .position .0) (c .args .n) (
 smallest-requires : tie.Need-smallest-requires Inv-loop μ-loop
 smallest-requires c κs = search needs
 
-mul-joined : tie.Need-mul-joined Inv-loop μ-loop
-mul-joined c = omega (arith, found (c .before) .0)
+mul-insert : tie.Need-mul-insert Inv-loop μ-loop
+mul-insert c = omega (arith, found (c .before) .0)
 
-element-copy-out-joined : tie.Need-element-copy-out-joined Inv-loop μ-loop
-element-copy-out-joined c = found (c .before) .0
+element-copy-out-insert : tie.Need-element-copy-out-insert Inv-loop μ-loop
+element-copy-out-insert c = found (c .before) .0
 
-joined-requires : tie.Need-joined-requires Inv-loop μ-loop
-joined-requires c κs = let l = found (c .before .before) .0 in search needs
+insert-requires : tie.Need-insert-requires Inv-loop μ-loop
+insert-requires c κs = search needs
 
 mul-labels : tie.Need-mul-labels Inv-loop μ-loop
 mul-labels c = omega (arith, found (c .before .before .before) .0)
@@ -94,9 +94,9 @@ spread-spec =
     μ-loop
     loop-holds
     smallest-requires
-    mul-joined
-    element-copy-out-joined
-    joined-requires
+    mul-insert
+    element-copy-out-insert
+    insert-requires
     mul-labels
     element-write-labels
     without-smallest-requires

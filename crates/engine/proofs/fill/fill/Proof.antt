@@ -48,7 +48,7 @@ add-remove : tie.Need-add-remove Inv-loop μ-loop
 add-remove c = search needs
 
 spread-requires : tie.Need-spread-requires Inv-loop μ-loop
-spread-requires c κs = omega arith
+spread-requires c κs = tt
 
 cast-remove : tie.Need-cast-remove Inv-loop μ-loop
 cast-remove c = search needs

@@ -76,7 +76,7 @@ shared-slice-read-spread : tie.Need-shared-slice-read-spread Inv-loop μ-loop
 shared-slice-read-spread c = omega (arith, inside (c .before .before .before .before .before .before .before))
 
 spread-requires : tie.Need-spread-requires Inv-loop μ-loop
-spread-requires c κs = let v = c .before .before .before .before .before .before .before in omega (arith, inside v, v .before .before .before .before .before .before .pre .fits)
+spread-requires c κs = search needs
 
 remove-requires : tie.Need-remove-requires Inv-loop μ-loop
 remove-requires c κs = search needs
