@@ -5,3 +5,4 @@ pub mod Sets
 pub mod Word
 pub mod WordOrder
 pub mod Scan
+pub mod Passed

@@ -1,3 +1,2 @@
-pub mod Passed
 pub mod Seen
 pub mod Tried

@@ -1,1 +1,1 @@
-pub mod OneWay
+pub mod Row

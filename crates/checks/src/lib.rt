@@ -3,46 +3,45 @@
 ghost use mathlib.Core.Path.{_≡_};
 ghost use Prim.Native.Nat.{ℕ, _≤_, _<_};
 ghost use lib.ListN.{length};
-ghost use Rattle.bitset.specs.Below.{anyBelow};
+ghost use Rattle.bitset.specs.Below.{firstBelow};
 ghost use Rattle.searches.specs.Ordering.{at};
-ghost use Rattle.searches.specs.Answer.{bitOutside, selfLoop, oneWay, vertexOutside};
-ghost use Rattle.searches.specs.Answer.{openTests, judgeTests, listTests, firstRefusal, refusalOf};
+ghost use Rattle.searches.specs.Answer.{vertexOutside, openTests, judgeTests, listTests, firstRefusal, refusalOf};
 ghost use Rattle.searches.specs.Answer as answer;
-ghost use Rattle.checks.specs.OneWay.{unanswered};
+ghost use Rattle.checks.specs.Row.{outsideAt, loopAt, oneWayAt};
 use searches::Kind;
 use searches::Outcome;
 use searches::Refusal;
 
-// Whether some row has a bit at or above the number of rows.
-fn bit_outside(rows: &[u64]) -> bool
-    ensures { λ r. ⌜ r ≡ bitOutside (now (rows .entry)) ⌝ }
+// The first row with a bit at or above the number of rows; that number where there is none.
+fn first_outside(rows: &[u64]) -> usize
+    ensures { λ r. ⌜ r ≡ firstBelow (length (now (rows .entry))) (outsideAt (now (rows .entry))) ⌝ }
 {
     let n = rows.len();
     for u in 0..n {
         if bitset::any_from(rows[u], n) {
-            return true;
+            return u;
         }
     }
-    false
+    n
 }
 
-// Whether some vertex is linked to itself.
-fn self_loop(rows: &[u64]) -> bool
-    ensures { λ r. ⌜ r ≡ selfLoop (now (rows .entry)) ⌝ }
+// The first vertex that is linked to itself; the number of rows where there is none.
+fn first_loop(rows: &[u64]) -> usize
+    ensures { λ r. ⌜ r ≡ firstBelow (length (now (rows .entry))) (loopAt (now (rows .entry))) ⌝ }
 {
     let n = rows.len();
     for u in 0..n {
         if bitset::contains(rows[u], u) {
-            return true;
+            return u;
         }
     }
-    false
+    n
 }
 
 // Whether `u` has an arc to a vertex that has none back. Only the arcs of `u` are looked at.
 fn one_way_from(rows: &[u64], u: usize) -> bool
     requires { ⌜ u < length (now rows) ⌝ }
-    ensures { λ r. ⌜ r ≡ anyBelow (length (now (rows .entry))) (unanswered (now (rows .entry)) u) ⌝ }
+    ensures { λ r. ⌜ r ≡ oneWayAt (now (rows .entry)) u ⌝ }
 {
     let n = rows.len();
     let mut rest = rows[u];
@@ -56,17 +55,17 @@ fn one_way_from(rows: &[u64], u: usize) -> bool
     false
 }
 
-// Whether some arc has none back.
-fn one_way(rows: &[u64]) -> bool
-    ensures { λ r. ⌜ r ≡ oneWay (now (rows .entry)) ⌝ }
+// The first vertex with an arc that has none back; the number of rows where there is none.
+fn first_one_way(rows: &[u64]) -> usize
+    ensures { λ r. ⌜ r ≡ firstBelow (length (now (rows .entry))) (oneWayAt (now (rows .entry))) ⌝ }
 {
     let n = rows.len();
     for u in 0..n {
         if one_way_from(rows, u) {
-            return true;
+            return u;
         }
     }
-    false
+    n
 }
 
 // Whether one of the first `k` entries is `n` or more.
@@ -106,16 +105,19 @@ pub fn open_refusal(kind: Kind, rows: &[u64]) -> Outcome
     if 5 < kind.0 {
         return Outcome::Refused(Refusal::UnknownKind);
     }
-    if 64 < rows.len() {
+    let n = rows.len();
+    if 64 < n {
         return Outcome::Refused(Refusal::TooManyVertices);
     }
-    if bit_outside(rows) {
+    let outside = first_outside(rows);
+    let looped = first_loop(rows);
+    if outside < n {
         return Outcome::Refused(Refusal::ArcOutOfRange);
     }
-    if self_loop(rows) {
+    if looped < n {
         return Outcome::Refused(Refusal::SelfLoop);
     }
-    if one_way(rows) {
+    if first_one_way(rows) < n {
         return Outcome::Refused(Refusal::OneWayArc);
     }
     Outcome::Done

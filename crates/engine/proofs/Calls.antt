@@ -26,7 +26,7 @@ use Rattle.searches.proofs.Refusals.{none-accepts, first-refuses}
 use Rattle.searches.proofs.Answers as answers
 use Rattle.checks.proofs.Tried.{tried-first, refused-before}
 use Rattle.engine.specs.Steps.{labelsAfter, freeAfter, stopsAt, lastIn, firstIn, firstFault, fillIn, Replayable, Searchable, Judgeable, Extendable}
-use Rattle.engine.proofs.Searching.{some-found}
+use Rattle.bitset.proofs.Passed.{some-found}
 use Rattle.engine.proofs.Judging.{first-before, judge-fails-words, judge-passes-words}
 use Rattle.engine.proofs.Filling.{carry-fills}
 

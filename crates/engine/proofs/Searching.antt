@@ -1,44 +1,22 @@
 -- The search for the first violation at a vertex: what its loops rest on.
---   Unfound f e                    the test fails at every number below e; unfound-next, unfound-stop, unfound-end
---   some-found, none-found         what a search that found something, or nothing, says
 --   found-there, shown             what the two searches find is the first violation
 --   same-parts, violates-at        the parts of a violation, answer by answer
 -- Assumes nothing.
 use mathlib.Core.Path.{_≡_, refl, sym, ap, ap₂, _∙_, subst}
 use mathlib.Core.Bool.{Bool, not, _&&_}
-use mathlib.Core.Logic.{_⊎_, inl, inr}
 use mathlib.Core.List.{List}
-use Prim.Native.Nat.{ℕ, _+_, _≤_, _<_}
+use Prim.Native.Nat.{ℕ, _+_, _<_}
 use native.Mathlib.Omega.{arith}
-use native.Mathlib.Numerals.{add-one}
 use lib.Dec.{T, eqb}
 use lib.ListN.{length, getD}
 use Rattle.bitset.specs.Below.{anyBelow, firstBelow}
 use Rattle.bitset.specs.Word.{member}
-use Rattle.bitset.proofs.Tests.{below-suc}
-use Rattle.bitset.proofs.Below.{first-unique, first, first-found, any-out, any-at}
+use Rattle.bitset.proofs.Below.{first, first-found, any-out}
 use Rattle.searches.specs.Kind.{Search}
 use Rattle.searches.specs.Ordering.{arcs, at}
 use Rattle.searches.specs.Violation.{third, fails}
 use Rattle.labels.specs.Words.{unexcusedIn}
 use Rattle.engine.specs.Steps.{violatesIn, lastIn, firstIn, firstFault}
-
-abbrev pub Unfound : (ℕ → Bool) → ℕ → Type 0
-Unfound f e = (x : ℕ) → x < e → T (f x) → ⊥
-
-pub unfound-next : (f : ℕ → Bool) (e : ℕ) → Unfound f e → (T (f e) → ⊥) → Unfound f (e + 1)
-unfound-next f e none out x l t = go (below-suc e x (subst (λ (m : ℕ). x < m) (add-one e) l))
-  where
-    go : (x < e) ⊎ (x ≡ e) → ⊥
-    go (inl h) = none x h t
-    go (inr same) = out (subst (λ (y : ℕ). T (f y)) same t)
-
-pub unfound-stop : (m : ℕ) (f : ℕ → Bool) (e : ℕ) → e ≤ m → Unfound f e → T (f e) → e ≡ firstBelow m f
-unfound-stop m f e l none t = first-unique (record { within = l; holds = λ _. t; least = none })
-
-pub unfound-end : (m : ℕ) (f : ℕ → Bool) (e : ℕ) → e ≡ m → Unfound f e → m ≡ firstBelow m f
-unfound-end m f e same none =
-    first-unique (record { within = omega arith; holds = λ h. absurd (omega arith); least = λ x l. none x (omega arith) })
 
 pub same-parts : {x x′ y y′ z z′ u u′ : Bool} (q : Bool) → x ≡ x′ → y ≡ y′ → z ≡ z′ → u ≡ u′
     → (((x && not y) && (z && q)) && u) ≡ (((x′ && not y′) && (z′ && q)) && u′)
@@ -52,15 +30,6 @@ pub violates-at : (s : Search) (rows w labels : List ℕ) (free j i c : ℕ) {a 
 unfolding violatesIn
 violates-at s rows w labels free j i c p q =
     ap₂ (λ (x y : ℕ). arcs rows x c && not (arcs rows x y) && (member free c && not (eqb c y)) && unexcusedIn s i (getD labels c 0) (getD labels y 0)) p q
-
--- what a search that found something, or nothing, says
-pub some-found : (m : ℕ) (f : ℕ → Bool) (r : ℕ) → r ≡ firstBelow m f → r < m → T (anyBelow m f)
-some-found m f r e l =
-    let h : firstBelow m f < m = omega arith in
-    any-at m f (firstBelow m f) h (first m f .holds h)
-
-pub none-found : (m : ℕ) (f : ℕ → Bool) (r : ℕ) → r ≡ firstBelow m f → m ≤ r → T (anyBelow m f) → ⊥
-none-found m f r e l t = omega (arith, e, first-found (any-out m f t))
 
 -- ---- what is shown
 

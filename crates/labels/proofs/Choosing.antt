@@ -3,11 +3,11 @@
 --   closed-next                   one entry more
 --   chosen-found, chosen-none     what the search ends with;   none-open   with no free vertex none is open
 -- Assumes nothing.
-use mathlib.Core.Path.{_≡_, sym, ap, subst}
+use mathlib.Core.Path.{_≡_, sym, ap, _∙_, subst}
 use mathlib.Core.Bool.{not}
 use mathlib.Core.Logic.{_⊎_, inl, inr}
 use mathlib.Core.List.{List}
-use Prim.Native.Nat.{ℕ, suc, _-_, _≤_, _<_}
+use Prim.Native.Nat.{ℕ, suc, _≤_, _<_}
 use native.Mathlib.Omega.{arith}
 use lib.Dec.{T}
 use lib.ListN.{length, getD}
@@ -23,16 +23,23 @@ module _ (s : Search) (labels : List ℕ) (free : ℕ) (t : List ℕ) where
   abbrev pub Closed : ℕ → Type 0
   Closed q = (x : ℕ) → q ≤ x → x < length t → T (openIn s labels free (at t x)) → ⊥
 
-  pub closed-next : (q : ℕ) → 0 < q → Closed q → (T (openIn s labels free (at t (q - 1))) → ⊥) → Closed (q - 1)
-  closed-next q pos none out x l h o = go (below-or x q)
+  -- v is what stands at q
+  pub closed-next : (q : ℕ) {v : ℕ} → v ≡ at t q → Closed (suc q) → (T (openIn s labels free v) → ⊥) → Closed q
+  closed-next q {v} stands none out x l h o = go (below-or x (suc q))
     where
-      go : (x < q) ⊎ (q ≤ x) → ⊥
-      go (inl i) = let e : x ≡ q - 1 = omega arith in out (subst (λ (y : ℕ). T (openIn s labels free (at t y))) e o)
+      go : (x < suc q) ⊎ (suc q ≤ x) → ⊥
+      go (inl i) = let e : x ≡ q = omega arith in out (subst (λ (y : ℕ). T (openIn s labels free y)) (ap (λ (y : ℕ). at t y) e ∙ sym stands) o)
       go (inr i) = none x i h o
 
-  pub chosen-found : (q : ℕ) → q < length t → Closed (suc q) → T (openIn s labels free (at t q)) → at t q ≡ chosenIn s labels free t
+  pub chosen-found : (q : ℕ) {v : ℕ} → v ≡ at t q → q < length t → Closed (suc q) → T (openIn s labels free v) → v ≡ chosenIn s labels free t
   unfolding chosenIn
-  chosen-found q l none o = ap (λ (x : ℕ). at t x) (last-unique (record { below = l; holds = o; greatest = λ i h p. under i h p (below-or q i) }))
+  chosen-found q {v} stands l none o =
+      stands
+      ∙ ap (λ (x : ℕ). at t x) (last-unique (record {
+        below = l;
+        holds = subst (λ (y : ℕ). T (openIn s labels free y)) stands o;
+        greatest = λ i h p. under i h p (below-or q i);
+      }))
     where
       under : (i : ℕ) → i < length t → T (openIn s labels free (at t i)) → (q < i) ⊎ (i ≤ q) → i ≤ q
       under i h p (inl g) = absurd (none i g h p)

@@ -56,11 +56,13 @@ pub fn choose(kind: Kind, labels: &[u64; 64], free: u64, tie_break: &[u8]) -> u8
         return entry(tie_break, 0);
     }
     let best = champion(kind, labels, free);
-    let mut q = tie_break.len();
-    while 0 < q {
-        q -= 1;
-        if is_open(kind, labels, free, best, tie_break[q] as usize) {
-            return tie_break[q];
+    let length = tie_break.len();
+    let mut passed = 0;
+    while passed < length {
+        passed += 1;
+        let v = entry(tie_break, length - passed);
+        if is_open(kind, labels, free, best, v as usize) {
+            return v;
         }
     }
     entry(tie_break, 0)

@@ -12,7 +12,7 @@ use Rattle.bitset.specs.Word.{member}
 use Rattle.bitset.proofs.Tests.{said-true, said-false}
 use Rattle.bitset.proofs.Scan.{Scanned, scan-start, scan-next, scan-found, scan-end, first-member, removed-less, taken-out}
 use Rattle.searches.specs.Ordering.{arcs}
-use Rattle.checks.specs.OneWay.{unanswered}
+use Rattle.checks.specs.Row.{unanswered, oneWayAt}
 use Rattle.checks.proofs.one_way_from.Statement.{statement}
 use Rattle.checks.proofs.one_way_from.Tie as tie
 use Rattle.checks.proofs.one_way_from.Reads as reads
@@ -56,7 +56,7 @@ contains-requires : tie.Need-contains-requires Inv-loop μ-loop
 contains-requires c κs = tt
 
 returns : tie.Need-returns Inv-loop μ-loop
-unfolding unanswered arcs
+unfolding oneWayAt unanswered arcs
 returns c =
     let turn = c .before .before .before in
     let n = turn .before in
@@ -80,7 +80,7 @@ loop-again c =
     (⊎-elim (λ w l. said-false _ (ap not (w .2 .ensures)) (w .3 .left)) (λ w l. absurd (omega (arith, w .left))) (c .before .if1 .came)))
 
 returns-2 : tie.Need-returns-2 Inv-loop μ-loop
-unfolding unanswered arcs
+unfolding oneWayAt unanswered arcs
 returns-2 c = scan-end (c .before .loop .inv) (c .loop-test .left)
 
 pub one-way-from-spec : {M : Type 1} → statement M

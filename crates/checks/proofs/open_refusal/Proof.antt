@@ -1,13 +1,17 @@
--- `checks::open_refusal` meets its contract: each answer is given after the tests before it were tried.
+-- `checks::open_refusal` meets its contract: each answer is given after the tests before it were tried, each on all rows.
 -- Assumes nothing.
-use mathlib.Core.Path.{sym, _∙_}
-use mathlib.Core.Bool.{Bool}
 use mathlib.Core.List.{List}
+use mathlib.Core.Bool.{Bool}
 use Prim.Native.Nat.{ℕ}
 use denote.Ref.{now}
 use lib.ListN.{drop}
 use borrow.Author.Tests.{lt-ltb, le-ltb}
-use Rattle.searches.specs.Answer.{openTests, number, refusalOf}
+use Rattle.bitset.specs.Word.{fromUp}
+use Rattle.bitset.proofs.Tests.{is-true, is-false}
+use Rattle.bitset.proofs.Passed.{some-found, none-found}
+use Rattle.searches.specs.Ordering.{arcs}
+use Rattle.searches.specs.Answer.{bitOutside, selfLoop, oneWay, openTests, number, refusalOf}
+use Rattle.checks.specs.Row.{outsideAt, loopAt, unanswered, oneWayAt}
 use Rattle.checks.proofs.Tried.{Tried, tried-none, tried-one, refused-here, accepted-here}
 use Rattle.checks.proofs.open_refusal.Statement.{statement}
 use Rattle.checks.proofs.open_refusal.Tie as tie
@@ -27,17 +31,19 @@ past-2 : (c : tie.Else2) → Past 2 (c .before .before)
 unfolding openTests
 past-2 c = tried-one (past-1 (c .before)) (le-ltb _ _ (c .if2 .left))
 
-past-3 : (c : tie.Else3) → Past 3 (c .before .before .before .before)
-unfolding openTests
-past-3 c = tried-one (past-2 (c .before .before)) (sym (c .before .bit-outside .ensures) ∙ c .if3 .left)
+past-3 : (c : tie.Else3) → Past 3 (c .before .before .before .before .before)
+unfolding openTests bitOutside outsideAt fromUp arcs
+past-3 c =
+    let looked = c .before .before in
+    tried-one (past-2 (looked .before)) (is-false _ (none-found _ _ _ (looked .first-outside .ensures) (c .if3 .left)))
 
 past-4 : (c : tie.Else4) → Past 4 (c .before .before .before .before .before .before)
-unfolding openTests
-past-4 c = tried-one (past-3 (c .before .before)) (sym (c .before .self-loop .ensures) ∙ c .if4 .left)
+unfolding openTests selfLoop loopAt
+past-4 c = tried-one (past-3 (c .before)) (is-false _ (none-found _ _ _ (c .before .before .first-loop .ensures) (c .if4 .left)))
 
 past-5 : (c : tie.Else5) → Past 5 (c .before .before .before .before .before .before .before .before)
-unfolding openTests
-past-5 c = tried-one (past-4 (c .before .before)) (sym (c .before .one-way .ensures) ∙ c .if5 .left)
+unfolding openTests oneWay oneWayAt unanswered
+past-5 c = tried-one (past-4 (c .before .before)) (is-false _ (none-found _ _ _ (c .before .first-one-way .ensures) (c .if5 .left)))
 
 returns : tie.Need-returns
 unfolding openTests number refusalOf
@@ -47,26 +53,28 @@ returns-2 : tie.Need-returns-2
 unfolding openTests number refusalOf
 returns-2 c = refused-here (past-1 (c .before)) (lt-ltb _ _ (c .if2 .taken))
 
-bit-outside-requires : tie.Need-bit-outside-requires
-bit-outside-requires c κs = tt
+first-outside-requires : tie.Need-first-outside-requires
+first-outside-requires c κs = tt
+
+first-loop-requires : tie.Need-first-loop-requires
+first-loop-requires c κs = tt
 
 returns-3 : tie.Need-returns-3
-unfolding openTests number refusalOf
-returns-3 c = refused-here (past-2 (c .before .before)) (sym (c .before .bit-outside .ensures) ∙ c .if3 .taken)
-
-self-loop-requires : tie.Need-self-loop-requires
-self-loop-requires c κs = tt
+unfolding openTests number refusalOf bitOutside outsideAt fromUp arcs
+returns-3 c =
+    let looked = c .before .before in
+    refused-here (past-2 (looked .before)) (is-true _ (some-found _ _ _ (looked .first-outside .ensures) (c .if3 .taken)))
 
 returns-4 : tie.Need-returns-4
-unfolding openTests number refusalOf
-returns-4 c = refused-here (past-3 (c .before .before)) (sym (c .before .self-loop .ensures) ∙ c .if4 .taken)
+unfolding openTests number refusalOf selfLoop loopAt
+returns-4 c = refused-here (past-3 (c .before)) (is-true _ (some-found _ _ _ (c .before .before .first-loop .ensures) (c .if4 .taken)))
 
-one-way-requires : tie.Need-one-way-requires
-one-way-requires c κs = tt
+first-one-way-requires : tie.Need-first-one-way-requires
+first-one-way-requires c κs = tt
 
 returns-5 : tie.Need-returns-5
-unfolding openTests number refusalOf
-returns-5 c = refused-here (past-4 (c .before .before)) (sym (c .before .one-way .ensures) ∙ c .if5 .taken)
+unfolding openTests number refusalOf oneWay oneWayAt unanswered
+returns-5 c = refused-here (past-4 (c .before .before)) (is-true _ (some-found _ _ _ (c .before .first-one-way .ensures) (c .if5 .taken)))
 
 returns-6 : tie.Need-returns-6
 unfolding openTests number refusalOf
@@ -78,10 +86,10 @@ open-refusal-spec =
     (tie.spec
     returns
     returns-2
-    bit-outside-requires
+    first-outside-requires
+    first-loop-requires
     returns-3
-    self-loop-requires
     returns-4
-    one-way-requires
+    first-one-way-requires
     returns-5
     returns-6)

@@ -5,7 +5,7 @@ use Prim.Native.Nat.{_-_}
 use native.Mathlib.Omega.{arith}
 use Rattle.searches.specs.Ordering.{at, placed}
 use Rattle.searches.specs.Answer.{repeated}
-use Rattle.checks.proofs.Passed.{Passed, passed-start, passed-more, found, none-found}
+use Rattle.bitset.proofs.Passed.{Passed, passed-start, passed-more, any-found, any-unfound}
 use Rattle.checks.proofs.Seen.{Seen, seen-none, seen-more}
 use Rattle.checks.proofs.repeated.Statement.{statement}
 use Rattle.checks.proofs.repeated.Tie as tie
@@ -32,7 +32,7 @@ returns : tie.Need-returns Inv-loop μ-loop
 unfolding repeated placed
 returns c =
     let turn = c .before .before .before in
-    found _ _ (turn .loop-test .taken) (sym (turn .before .loop .inv .1 .members _) ∙ sym (c .before .contains .ensures) ∙ c .if1 .taken)
+    any-found _ _ (turn .loop-test .taken) (sym (turn .before .loop .inv .1 .members _) ∙ sym (c .before .contains .ensures) ∙ c .if1 .taken)
 
 insert-requires : tie.Need-insert-requires Inv-loop μ-loop
 insert-requires c κs = tt
@@ -55,7 +55,7 @@ loop-again c =
 
 returns-2 : tie.Need-returns-2 Inv-loop μ-loop
 unfolding repeated placed
-returns-2 c = none-found (c .before .loop .inv .0) (c .loop-test .left)
+returns-2 c = any-unfound (c .before .loop .inv .0) (c .loop-test .left)
 
 pub repeated-spec : {M : Type 1} → statement M
 repeated-spec =

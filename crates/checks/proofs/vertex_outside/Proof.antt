@@ -6,7 +6,7 @@ use borrow.Author.Tests.{le-leb, lt-leb}
 use lib.Dec.{leb}
 use Rattle.searches.specs.Ordering.{at}
 use Rattle.searches.specs.Answer.{vertexOutside}
-use Rattle.checks.proofs.Passed.{Passed, passed-start, passed-more, found, none-found}
+use Rattle.bitset.proofs.Passed.{Passed, passed-start, passed-more, any-found, any-unfound}
 use Rattle.checks.proofs.vertex_outside.Statement.{statement}
 use Rattle.checks.proofs.vertex_outside.Tie as tie
 
@@ -27,7 +27,7 @@ cast-if1 c = omega (arith, c .shared-slice-known .given (c .before .before .loop
 
 returns : tie.Need-returns Inv-loop μ-loop
 unfolding vertexOutside
-returns c = found _ _ (c .before .before .loop-test .taken) (le-leb _ _ (c .if1 .taken))
+returns c = any-found _ _ (c .before .before .loop-test .taken) (le-leb _ _ (c .if1 .taken))
 
 add-p : tie.Need-add-p Inv-loop μ-loop
 add-p c = omega arith
@@ -40,7 +40,7 @@ loop-again c = let turn = c .before .before in passed-more (turn .before .loop .
 
 returns-2 : tie.Need-returns-2 Inv-loop μ-loop
 unfolding vertexOutside
-returns-2 c = none-found (c .before .loop .inv) (c .loop-test .left)
+returns-2 c = any-unfound (c .before .loop .inv) (c .loop-test .left)
 
 pub vertex-outside-spec : {M : Type 1} → statement M
 vertex-outside-spec =

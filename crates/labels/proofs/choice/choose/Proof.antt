@@ -1,13 +1,12 @@
 -- `labels::choice::choose` meets its contract: no entry that was passed, from the end on, is open.
 -- Assumes nothing.
-use Prim.Native.Nat.{_-_, _≤_}
+use Prim.Native.Nat.{_+_, _-_}
 use mathlib.Core.Path.{_∙_}
 use native.Mathlib.Omega.{arith}
 use lib.ListN.{length}
 use borrow.Author.Needs.{needs}
 use Rattle.bitset.proofs.Tests.{said-true, said-false}
 use Rattle.searches.specs.Kind.{searchOf}
-use Rattle.searches.specs.Ordering.{at}
 use Rattle.labels.specs.Words.{openIn}
 use Rattle.labels.proofs.Choosing.{Closed, closed-next, chosen-found, chosen-none, none-open}
 use Rattle.labels.proofs.choice.choose.Statement.{statement}
@@ -19,10 +18,10 @@ use Rattle.labels.proofs.choice.entry.Reads as entry-reads
 use Rattle.labels.proofs.choice.is_open.Reads as is-open-reads
 
 abbrev Inv-loop : tie.InvT-loop
-Inv-loop kind labels free tie-break best q₀ q = (q ≤ length tie-break) × Closed (searchOf (kind .0)) labels free tie-break q
+Inv-loop kind labels free tie-break best end passed₀ passed = Closed (searchOf (kind .0)) labels free tie-break (end - passed)
 
 abbrev μ-loop : tie.MeasureT-loop
-μ-loop kind labels free tie-break best q₀ q = q
+μ-loop kind labels free tie-break best end passed₀ passed = end - passed
 
 entry-requires : tie.Need-entry-requires Inv-loop μ-loop
 entry-requires c κs = search needs
@@ -37,58 +36,57 @@ champion-requires : tie.Need-champion-requires Inv-loop μ-loop
 champion-requires c κs = search needs
 
 loop-holds : tie.Need-loop-holds Inv-loop μ-loop
-loop-holds c = (omega arith, λ x l h. absurd (omega arith))
+loop-holds c = λ x l h. absurd (omega arith)
 
-sub-q : tie.Need-sub-q Inv-loop μ-loop
-sub-q c = search needs
+add-passed : tie.Need-add-passed Inv-loop μ-loop
+add-passed c = search needs
 
-shared-slice-read-is-open : tie.Need-shared-slice-read-is-open Inv-loop μ-loop
-shared-slice-read-is-open c = search needs
+sub-entry : tie.Need-sub-entry Inv-loop μ-loop
+sub-entry c = search needs
+
+entry-requires-2 : tie.Need-entry-requires-2 Inv-loop μ-loop
+entry-requires-2 c κs = search needs
 
 cast-is-open : tie.Need-cast-is-open Inv-loop μ-loop
-cast-is-open c = omega (arith, c .shared-slice-known2 .given (c .before .before .loop .q - 1))
+cast-is-open c = search needs
 
 is-open-requires : tie.Need-is-open-requires Inv-loop μ-loop
 is-open-requires c κs = c .before .before .before .champion .ensures
 
-shared-slice-read-result : tie.Need-shared-slice-read-result Inv-loop μ-loop
-shared-slice-read-result c = search needs
-
 returns-2 : tie.Need-returns-2 Inv-loop μ-loop
 returns-2 c =
-    let l = c .before .before .before .before .before in
-    let s = l .before .before .before .before in
-    let a = s .args in
+    let read = c .before .before in
+    let l = read .before .before in
+    let a = l .before .before .before .before .args in
     let k = searchOf (a .kind .0) in
-    let offers = openIn k (a .labels .now) (a .free) (at (a .tie-break .now) (l .loop .q - 1)) in
-    chosen-found k (a .labels .now) (a .free) (a .tie-break .now) (l .loop .q - 1) (omega arith)
-    (λ x h. l .loop .inv .1 x (omega arith)) (said-true offers (c .before .before .is-open .ensures) (c .before .if2 .taken))
+    let q = length (a .tie-break .now) - (l .loop .passed + 1) in
+    let offers = openIn k (a .labels .now) (a .free) (read .entry2 .result) in
+    chosen-found k (a .labels .now) (a .free) (a .tie-break .now) q (read .entry2 .ensures) (omega arith)
+    (λ x h. l .loop .inv x (omega arith)) (said-true offers (c .before .is-open .ensures) (c .if2 .taken))
 
 loop-less : tie.Need-loop-less Inv-loop μ-loop
 loop-less c = search needs
 
 loop-again : tie.Need-loop-again Inv-loop μ-loop
 loop-again c =
-    let l = c .before .before .before .before in
-    let s = l .before .before .before .before in
-    let a = s .args in
+    let read = c .before .before in
+    let l = read .before .before in
+    let a = l .before .before .before .before .args in
     let k = searchOf (a .kind .0) in
-    let offers = openIn k (a .labels .now) (a .free) (at (a .tie-break .now) (l .loop .q - 1)) in (
-      omega arith,
-      closed-next k (a .labels .now) (a .free) (a .tie-break .now) (l .loop .q) (omega arith) (l .loop .inv .1)
-          (said-false offers (c .before .is-open .ensures) (c .if2 .left)),
-    )
+    let q = length (a .tie-break .now) - (l .loop .passed + 1) in
+    let offers = openIn k (a .labels .now) (a .free) (read .entry2 .result) in
+    closed-next k (a .labels .now) (a .free) (a .tie-break .now) q (read .entry2 .ensures) (λ x h. l .loop .inv x (omega arith))
+    (said-false offers (c .before .is-open .ensures) (c .if2 .left))
 
-entry-requires-2 : tie.Need-entry-requires-2 Inv-loop μ-loop
-entry-requires-2 c κs = search needs
+entry-requires-3 : tie.Need-entry-requires-3 Inv-loop μ-loop
+entry-requires-3 c κs = search needs
 
 returns-3 : tie.Need-returns-3 Inv-loop μ-loop
 returns-3 c =
     let l = c .before .before in
-    let s = l .before .before .before .before in
-    let a = s .args in
+    let a = l .before .before .before .before .args in
     let k = searchOf (a .kind .0) in
-    c .entry2 .ensures ∙ chosen-none k (a .labels .now) (a .free) (a .tie-break .now) (λ x h. l .loop .inv .1 x (omega arith))
+    c .entry3 .ensures ∙ chosen-none k (a .labels .now) (a .free) (a .tie-break .now) (λ x h. l .loop .inv x (omega arith))
 
 pub choose-spec : {M : Type 1} → statement M
 choose-spec =
@@ -100,13 +98,13 @@ choose-spec =
     returns
     champion-requires
     loop-holds
-    sub-q
-    shared-slice-read-is-open
+    add-passed
+    sub-entry
+    entry-requires-2
     cast-is-open
     is-open-requires
-    shared-slice-read-result
     returns-2
     loop-less
     loop-again
-    entry-requires-2
+    entry-requires-3
     returns-3)

@@ -1,20 +1,16 @@
--- `checks::bit_outside` meets its contract: no row that was passed has a bit from n up.
+-- `checks::first_outside` meets its contract: no row that was passed has a bit from n up.
 -- Assumes nothing.
 use mathlib.Core.Path.{sym, _∙_}
 use Prim.Native.Nat.{_-_}
 use native.Mathlib.Omega.{arith}
 use borrow.Author.Needs.{needs}
-use lib.ListN.{getD}
-use Rattle.bitset.specs.Below.{anyBelow}
-use Rattle.bitset.specs.Word.{fromUp}
-use Rattle.searches.specs.Ordering.{arcs}
-use Rattle.searches.specs.Answer.{bitOutside}
-use Rattle.checks.proofs.Passed.{Passed, passed-start, passed-more, found, none-found}
-use Rattle.checks.proofs.bit_outside.Statement.{statement}
-use Rattle.checks.proofs.bit_outside.Tie as tie
+use Rattle.bitset.proofs.Passed.{Passed, passed-start, passed-more, first-found, first-unfound}
+use Rattle.checks.specs.Row.{outsideAt}
+use Rattle.checks.proofs.first_outside.Statement.{statement}
+use Rattle.checks.proofs.first_outside.Tie as tie
 
 abbrev Inv-loop : tie.InvT-loop
-Inv-loop rows n u₀ u = Passed n (λ u. anyBelow 64 (fromUp n (getD rows u 0))) u
+Inv-loop rows n u₀ u = Passed n (outsideAt rows) u
 
 abbrev μ-loop : tie.MeasureT-loop
 μ-loop rows n u₀ u = n - u
@@ -32,8 +28,8 @@ any-from-requires : tie.Need-any-from-requires Inv-loop μ-loop
 any-from-requires c κs = tt
 
 returns : tie.Need-returns Inv-loop μ-loop
-unfolding bitOutside arcs fromUp
-returns c = found _ _ (c .before .before .before .loop-test .taken) (sym (c .before .any-from .ensures) ∙ c .if1 .taken)
+unfolding outsideAt
+returns c = first-found (c .before .before .before .before .loop .inv) (sym (c .before .any-from .ensures) ∙ c .if1 .taken)
 
 add-u : tie.Need-add-u Inv-loop μ-loop
 add-u c = omega arith
@@ -42,17 +38,16 @@ loop-less : tie.Need-loop-less Inv-loop μ-loop
 loop-less c = omega arith
 
 loop-again : tie.Need-loop-again Inv-loop μ-loop
-unfolding bitOutside arcs fromUp
+unfolding outsideAt
 loop-again c =
     let turn = c .before .before .before in
     passed-more (turn .before .loop .inv) (turn .loop-test .taken) (sym (c .before .any-from .ensures) ∙ c .if1 .left)
 
 returns-2 : tie.Need-returns-2 Inv-loop μ-loop
-unfolding bitOutside arcs fromUp
-returns-2 c = none-found (c .before .loop .inv) (c .loop-test .left)
+returns-2 c = first-unfound (c .before .loop .inv) (c .loop-test .left)
 
-pub bit-outside-spec : {M : Type 1} → statement M
-bit-outside-spec =
+pub first-outside-spec : {M : Type 1} → statement M
+first-outside-spec =
     tie.close
     (tie.spec
     Inv-loop
