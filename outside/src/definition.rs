@@ -9,6 +9,7 @@
 //!   is_violation kind a b c     a, b, c stand in the fault relation                [01: fault triples]
 //!   first_violation kind        the first of them                                  [01: first triple]
 //!   judge, carry_on             the two calls, as the firmware sees them           [01: the calls]
+//!   open_walk                   the open walk, and its four calls
 
 /// A point's number.
 pub type Vertex = usize;
@@ -289,6 +290,8 @@ pub fn carry_on(
     after[..ordering.len()].copy_from_slice(&ordering);
     (0, after)
 }
+
+pub mod open_walk;
 
 #[cfg(test)]
 mod tests;

@@ -2,19 +2,24 @@
 --   replayable                        an ordering can be replayed on empty labels
 --   fault-there, fault-judged         where the replay stops there is a violation, and the first one is judge's verdict
 --   stopped-fails, ended-passes, whole-filled, filled-carried   what extend answers and leaves
+--   passes-refused, passes-counted    whether an ordering that is placed again passes
 --   judge-asked-*, carryOn-asked-*    the answers of the calls, from the checks' answer
 -- Assumes nothing.
 use mathlib.Core.Path.{_≡_, refl, sym, ap, ap₂, _∙_, subst}
 use mathlib.Core.Bool.{Bool, true, false, cond, not}
+use mathlib.Core.Logic.{_⊎_, inl, inr}
 use mathlib.Core.List.{List, [], _∷_, _++_, append-nil, append-assoc}
 use mathlib.Core.Option.{Option, none, some}
 use Prim.Native.Nat.{ℕ, _+_, _-_, _≤_, _<_}
 use native.Mathlib.Omega.{arith}
-use lib.Dec.{T}
+use borrow.Author.Tests.{eq-eqb, ne-eqb}
+use lib.Dec.{T, eqb}
 use lib.ListN.{length, take, drop, replicate, length-drop, drop-of-length-le}
 use lib.Seq.{take-all, drop-drop}
 use Rattle.bitset.specs.Below.{anyBelow, firstBelow}
+use Rattle.bitset.proofs.Tests.{below-or}
 use Rattle.bitset.proofs.Below.{first}
+use Rattle.bitset.proofs.Passed.{some-found}
 use Rattle.searches.specs.Kind.{Search, searchOf}
 use Rattle.searches.specs.Ordering.{arcs}
 use Rattle.searches.specs.Violation.{Verdict, passes, refused, judge}
@@ -26,7 +31,6 @@ use Rattle.searches.proofs.Refusals.{none-accepts, first-refuses}
 use Rattle.searches.proofs.Answers as answers
 use Rattle.checks.proofs.Tried.{tried-first, refused-before}
 use Rattle.engine.specs.Steps.{labelsAfter, freeAfter, stopsAt, lastIn, firstIn, firstFault, fillIn, Replayable, Searchable, Judgeable, Extendable}
-use Rattle.bitset.proofs.Passed.{some-found}
 use Rattle.engine.proofs.Judging.{first-before, judge-fails-words, judge-passes-words}
 use Rattle.engine.proofs.Filling.{carry-fills}
 
@@ -124,6 +128,27 @@ module _ (kind : ℕ) (rows w : List ℕ) where
       let a = none-accepts (judgeTests kind rows w) (sym e) in
       let x = answers.accepted-ordering kind rows w a in
       (record { small = answers.valid-small kind rows (x .0); ordering = x .1 }, sym (answers.judge-accepted kind rows w a))
+
+  -- what `after` answers of an ordering that is refused, and of one that was placed again up to `count`
+  pub passes-refused : (q : ℕ) → some q ≡ firstRefusal (judgeTests kind rows w) → false ≡ isPass (judgeAnswer kind rows w)
+  unfolding isPass
+  passes-refused q e = ap isPass (judge-asked-refused q e)
+
+  pub passes-counted : none ≡ firstRefusal (judgeTests kind rows w) → (count : ℕ) → count ≡ firstBelow (length w) (stopsAt (searchOf kind) rows w)
+      → eqb count (length w) ≡ isPass (judgeAnswer kind rows w)
+  unfolding isPass
+  passes-counted e count stops = go (below-or count (length w)) ∙ ap isPass (x .1)
+    where
+      x : Judgeable rows w (length w) × (judge (searchOf kind) (arcs rows) (length rows) w (length w) ≡ judgeAnswer kind rows w)
+      x = judge-asked-accepted e
+
+      go : (count < length w) ⊎ (length w ≤ count) → eqb count (length w) ≡ isPass (judge (searchOf kind) (arcs rows) (length rows) w (length w))
+      go (inl l) =
+          ne-eqb count (length w) (λ same. omega arith)
+          ∙ sym (stopped-fails rows w (length w) (x .0) (searchOf kind) count stops (labelsAfter rows w count) (freeAfter (length rows) w count) l refl refl)
+      go (inr l) =
+          let same : count ≡ length w = omega (arith, stops, first (length w) (stopsAt (searchOf kind) rows w) .within) in
+          eq-eqb count (length w) same ∙ sym (ap isPass (ended-passes rows w (length w) (x .0) (searchOf kind) count stops l))
 
 module _ (kind : ℕ) (rows t out : List ℕ) (k : ℕ) where
   abbrev verdict : Verdict

@@ -1,4 +1,5 @@
 // Judge and carry-on on lent lists, for every kind, plan, list and number that can be handed in.
+pub mod after;
 mod fill;
 mod lookup;
 mod replay;

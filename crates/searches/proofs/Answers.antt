@@ -3,7 +3,7 @@
 --   accepts-both, both-accept        tests one behind the other
 --   ordering-accepted, accepted-ordering   judge refuses no ordering of a valid graph, and nothing else passes its tests
 --   start-accepted, accepted-start         likewise for carry-on
---   judge-refused, judge-accepted          judge's answer, refused and not
+--   judge-refused, judge-accepted          judge's answer, refused and not;   passes-accepts   what passes is not refused
 --   prefix-judged                          judge's answer on a prefix
 --   carryOn-done, carryOn-kept             what carry-on leaves in the output list
 -- Assumes nothing.
@@ -95,6 +95,14 @@ module _ (kind : ℕ) (rows w : List ℕ) where
       go : Accepts (judgeTests kind rows w) ⊎ ((q : ℕ) × Refuses q (judgeTests kind rows w)) → Refuses r (judgeTests kind rows w)
       go (inl a) = absurd (judge-decides a r (sym (judge-accepted a) ∙ e))
       go (inr x) = let same : x .0 ≡ r = cc (judge-refused (x .0) (x .1)) in subst (λ (q : ℕ). Refuses q (judgeTests kind rows w)) same (x .1)
+
+  pub passes-accepts : judgeAnswer kind rows w ≡ passes → Accepts (judgeTests kind rows w)
+  unfolding isPass
+  passes-accepts e = go (accepts-or-refuses (judgeTests kind rows w))
+    where
+      go : Accepts (judgeTests kind rows w) ⊎ ((q : ℕ) × Refuses q (judgeTests kind rows w)) → Accepts (judgeTests kind rows w)
+      go (inl a) = a
+      go (inr x) = absurd (subst (λ (v : Verdict). T (isPass v)) (sym e ∙ judge-refused (x .0) (x .1)) tt)
 
 -- the answer on a prefix, as a list of its own, is the verdict on so many positions
 pub prefix-judged : (kind : ℕ) (rows w : List ℕ) (k : ℕ) → Accepts (openTests kind rows) → IsOrdering (length rows) w k

@@ -43,7 +43,7 @@ module _ (kind : ℕ) (rows : List ℕ) (valid : Accepts (openTests kind rows)) 
         carryOn-carries (searchOf kind) (arcs rows) (length rows) t names out m (x .start .long) (ordering-fits (length rows) (x .start))
         (passes-greedy (searchOf kind) (arcs rows) (length rows) out m (x .start) (x .passing))
 
-    first-bytes : take (length rows) (carryOnOutput kind rows t out m) ≡ carryOn (searchOf kind) (arcs rows) (length rows) t out m
+    pub first-bytes : take (length rows) (carryOnOutput kind rows t out m) ≡ carryOn (searchOf kind) (arcs rows) (length rows) t out m
     first-bytes =
         ap (λ (l : List ℕ). take (length rows) l) (carryOn-done kind rows t out m (start-accepted kind rows t out m part-start))
         ∙ take-at (carryOn (searchOf kind) (arcs rows) (length rows) t out m) (drop (length rows) out) (length rows) (carried .full .full)

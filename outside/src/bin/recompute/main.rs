@@ -4,10 +4,12 @@
 //!   b   the orderings that document 001 names
 //!   c   all small plans
 //!   d   random plans, walks and damaged inputs from a fixed seed
+//!   e   the open walks that a program of the library plays
 
 mod comparison;
 mod document;
 mod examples;
+mod open_walks;
 mod random_calls;
 mod small_plans;
 
@@ -15,6 +17,7 @@ fn main() {
     let calls = examples::compare()
         + document::compare()
         + small_plans::compare()
-        + random_calls::compare();
+        + random_calls::compare()
+        + open_walks::compare();
     println!("all {calls} calls agree");
 }

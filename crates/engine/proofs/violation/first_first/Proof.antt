@@ -9,9 +9,6 @@ use Rattle.searches.specs.Kind.{searchOf}
 use Rattle.engine.specs.Steps.{firstIn}
 use Rattle.engine.proofs.violation.first_first.Statement.{statement}
 use Rattle.engine.proofs.violation.first_first.Tie as tie
-use Rattle.engine.proofs.violation.first_first.Reads as reads
-use Rattle.engine.proofs.violation.first_first.Lts as lts
-use Rattle.engine.proofs.violation.first_last.Reads as first-last-reads
 
 abbrev Inv-loop : tie.InvT-loop
 Inv-loop kind rows ordering k labels free j end middle i₀ i = Passed middle (firstIn (searchOf (kind .0)) rows ordering labels free (j .0) k) i

@@ -1,6 +1,6 @@
 -- `engine::violation::first_last` meets its contract: no candidate that was passed makes a violation.
 -- Assumes nothing.
-use Prim.Native.Nat.{ℕ, _+_, _-_}
+use Prim.Native.Nat.{ℕ, _-_}
 use mathlib.Core.Path.{_≡_, sym, ap, _∙_}
 use lib.ListN.{length}
 use Rattle.bitset.proofs.Passed.{Passed, passed-start, passed-more, first-found, first-unfound}
@@ -11,10 +11,6 @@ use Rattle.searches.proofs.Judge.{third-vertex}
 use Rattle.engine.specs.Steps.{violatesIn, lastIn}
 use Rattle.engine.proofs.violation.first_last.Statement.{statement}
 use Rattle.engine.proofs.violation.first_last.Tie as tie
-use Rattle.engine.proofs.violation.first_last.Reads as reads
-use Rattle.engine.proofs.violation.first_last.Lts as lts
-use Rattle.engine.proofs.violation.candidate.Reads as candidate-reads
-use Rattle.engine.proofs.violation.is_violation.Reads as is-violation-reads
 
 abbrev Inv-loop : tie.InvT-loop
 Inv-loop kind rows ordering k labels free j i end e₀ e = Passed end (lastIn (searchOf (kind .0)) rows ordering labels free (j .0) k (i .0)) e

@@ -1,0 +1,55 @@
+-- `traversal::offers::is_open` meets its contract.
+-- Assumes nothing.
+use Prim.Native.Nat.{_<_}
+use native.Mathlib.Omega.{arith}
+use lib.Dec.{T}
+use Rattle.bitset.specs.Word.{member}
+use Rattle.bitset.proofs.Tests.{not-true, not-false, said-true, said-false}
+use Rattle.bitset.proofs.Word.{member-below}
+use Rattle.searches.specs.Kind.{searchOf}
+use Rattle.labels.proofs.Scan.{closed-outside, open-unbeaten}
+use borrow.Author.Needs.{needs}
+use Rattle.traversal.proofs.offers.is_open.Statement.{statement}
+use Rattle.traversal.proofs.offers.is_open.Tie as tie
+
+contains-requires : tie.Need-contains-requires
+contains-requires c κs = search needs
+
+returns : tie.Need-returns
+returns c =
+    let s = c .before .before in
+    closed-outside (searchOf (s .args .kind .0)) (s .args .labels .now) (s .args .free) (s .args .v)
+    (said-false (member (s .args .free) (s .args .v)) (c .before .contains .ensures) (not-true (c .before .contains .result) (c .if1 .taken)))
+
+-- v is one of the free
+inside : (c : tie.Else1) → T (member (c .before .before .args .free) (c .before .before .args .v)) × (c .before .before .args .v < 64)
+inside c =
+    let s = c .before .before in
+    let t = said-true (member (s .args .free) (s .args .v)) (c .before .contains .ensures) (not-false (c .before .contains .result) (c .if1 .left)) in
+    (t, member-below 64 (s .fits .free .fits) (s .args .v) t)
+
+mul-is-beaten : tie.Need-mul-is-beaten
+mul-is-beaten c = omega (arith, inside c .1)
+
+element-copy-out-is-beaten : tie.Need-element-copy-out-is-beaten
+element-copy-out-is-beaten c = inside c .1
+
+is-beaten-requires : tie.Need-is-beaten-requires
+is-beaten-requires c κs = search needs
+
+returns-2 : tie.Need-returns-2
+returns-2 c =
+    let free = c .before .before in
+    let s = free .before .before in
+    open-unbeaten (searchOf (s .args .kind .0)) (s .args .labels .now) (s .args .free) (s .args .v) (c .is-beaten .result) (inside free .0) (c .is-beaten .ensures)
+
+pub is-open-spec : {M : Type 1} → statement M
+is-open-spec =
+    tie.close
+    (tie.spec
+    contains-requires
+    returns
+    mul-is-beaten
+    element-copy-out-is-beaten
+    is-beaten-requires
+    returns-2)

@@ -1,0 +1,157 @@
+// The open walk: a graph, a kind of search, and an ordering that grows and shrinks by one vertex. It is a state by value: each call takes it,
+// and hands it back with the answer. Its fields may hold anything; what is not well formed is refused, and handed back as it came.
+mod copy;
+mod offers;
+mod refusals;
+mod survey;
+
+use searches::Kind;
+use searches::Outcome;
+use searches::Refusal;
+use searches::Vertex;
+ghost use mathlib.Core.Path.{_≡_};
+ghost use Rattle.searches.specs.Answer.{openAnswer, refusalOf};
+ghost use Rattle.traversal.specs.State.{opened, offeredAnswer, offeredSet, placeAnswer, grown, takeBackAnswer, shrunk};
+
+// An open walk: `n` rows of a graph, and the first `k` entries of an ordering.
+pub struct Traversal {
+    pub kind: Kind,
+    pub n: usize,
+    pub rows: [u64; 64],
+    pub k: usize,
+    pub ordering: [u8; 64],
+}
+
+// An open walk, and whether it was opened, grown or shrunk.
+pub struct Stepped {
+    pub traversal: Traversal,
+    pub outcome: Outcome,
+}
+
+// An open walk, and the set of its offered vertices.
+pub struct Offering {
+    pub traversal: Traversal,
+    pub set: u64,
+    pub outcome: Outcome,
+}
+
+impl Traversal {
+    // An open walk with nothing placed, on its own copy of `rows`. Refused (1 to 5), the one of kind 0 with all else 0. Alters no list.
+    pub fn open(kind: Kind, rows: &[u64]) -> Stepped
+        ensures state { λ r. ⌜ r .traversal ≡ opened (kind .0) (now (rows .entry)) ⌝ }
+        ensures answer { λ r. ⌜ refusalOf (r .outcome) ≡ openAnswer (kind .0) (now (rows .entry)) ⌝ }
+    {
+        let mut copy = [0u64; 64];
+        let ordering = [0u8; 64];
+        let checked = checks::open_refusal(kind, rows);
+        if let Outcome::Refused(refusal) = checked {
+            return Stepped {
+                traversal: Traversal {
+                    kind: Kind::GENERIC,
+                    n: 0,
+                    rows: copy,
+                    k: 0,
+                    ordering,
+                },
+                outcome: Outcome::Refused(refusal),
+            };
+        }
+        copy::copy(rows, &mut copy);
+        Stepped {
+            traversal: Traversal {
+                kind,
+                n: rows.len(),
+                rows: copy,
+                k: 0,
+                ordering,
+            },
+            outcome: Outcome::Done,
+        }
+    }
+
+    // The vertices that may be placed next, none where all are placed or the call is refused (13). The open walk comes back as it was.
+    pub fn offered(self) -> Offering
+        ensures state { λ r. ⌜ r .traversal ≡ self ⌝ }
+        ensures set { λ r. ⌜ r .set ≡ offeredSet self ⌝ }
+        ensures answer { λ r. ⌜ refusalOf (r .outcome) ≡ offeredAnswer self ⌝ }
+    {
+        let kind = self.kind;
+        let n = self.n;
+        let rows = self.rows;
+        let ordering = self.ordering;
+        let moment = survey::survey(kind, n, &rows[..], self.k, &ordering[..]);
+        if !moment.passes {
+            return Offering {
+                traversal: self,
+                set: 0,
+                outcome: Outcome::Refused(Refusal::MalformedTraversal),
+            };
+        }
+        let set = offers::open_below(kind, &moment.labels, moment.free, n);
+        Offering {
+            traversal: self,
+            set,
+            outcome: Outcome::Done,
+        }
+    }
+
+    // The open walk with `vertex` placed behind the others. Refused (13, 14, 8, 15, 16), it comes back as it was.
+    pub fn place(self, vertex: Vertex) -> Stepped
+        ensures state { λ r. ⌜ r .traversal ≡ grown self (vertex .0) ⌝ }
+        ensures answer { λ r. ⌜ refusalOf (r .outcome) ≡ placeAnswer self (vertex .0) ⌝ }
+    {
+        let kind = self.kind;
+        let n = self.n;
+        let rows = self.rows;
+        let k = self.k;
+        let mut ordering = self.ordering;
+        let checked = refusals::place_refusal(kind, n, &rows[..], k, &ordering[..], vertex);
+        if let Outcome::Refused(refusal) = checked {
+            return Stepped {
+                traversal: self,
+                outcome: Outcome::Refused(refusal),
+            };
+        }
+        ordering[k] = vertex.0;
+        Stepped {
+            traversal: Traversal {
+                kind,
+                n,
+                rows,
+                k: k + 1,
+                ordering,
+            },
+            outcome: Outcome::Done,
+        }
+    }
+
+    // The open walk without the vertex placed last. Refused (13, 17), it comes back as it was.
+    pub fn take_back(self) -> Stepped
+        ensures state { λ r. ⌜ r .traversal ≡ shrunk self ⌝ }
+        ensures answer { λ r. ⌜ refusalOf (r .outcome) ≡ takeBackAnswer self ⌝ }
+    {
+        let kind = self.kind;
+        let n = self.n;
+        let rows = self.rows;
+        let k = self.k;
+        let mut ordering = self.ordering;
+        let checked = refusals::take_back_refusal(kind, n, &rows[..], k, &ordering[..]);
+        if let Outcome::Refused(refusal) = checked {
+            return Stepped {
+                traversal: self,
+                outcome: Outcome::Refused(refusal),
+            };
+        }
+        ordering[k - 1] = 0;
+        Stepped {
+            traversal: Traversal {
+                kind,
+                n,
+                rows,
+                k: k - 1,
+                ordering,
+            },
+            outcome: Outcome::Done,
+        }
+    }
+}

@@ -1,0 +1,78 @@
+// Whether an open walk is well formed.
+use engine::after::Moment;
+use searches::Kind;
+ghost use mathlib.Core.Path.{_≡_};
+ghost use Prim.Native.Nat.{_≤_};
+ghost use lib.Dec.{T};
+ghost use lib.ListN.{length, take};
+ghost use Rattle.engine.specs.Steps.{labelsAfter, freeAfter};
+ghost use Rattle.traversal.specs.State.{state, usedFrom, wellFormed};
+
+// Whether a row from `n` on is not 0.
+fn row_used_from(rows: &[u64], n: usize) -> bool
+    requires { ⌜ (n ≤ 64) × (length (now rows) ≡ 64) ⌝ }
+    ensures { λ r. ⌜ r ≡ usedFrom n (now (rows .entry)) ⌝ }
+{
+    for u in n..64 {
+        if rows[u] != 0 {
+            return true;
+        }
+    }
+    false
+}
+
+// Whether an entry from position `k` on is not 0.
+fn entry_used_from(ordering: &[u8], k: usize) -> bool
+    requires { ⌜ (k ≤ 64) × (length (now ordering) ≡ 64) ⌝ }
+    ensures { λ r. ⌜ r ≡ usedFrom k (now (ordering .entry)) ⌝ }
+{
+    for p in k..64 {
+        if ordering[p] != 0 {
+            return true;
+        }
+    }
+    false
+}
+
+// Whether the open walk of these parts is well formed; where it is, the labels and the unplaced vertices of the moment. Its walk is judged
+// once.
+pub fn survey(kind: Kind, n: usize, rows: &[u64], k: usize, ordering: &[u8]) -> Moment
+    requires { ⌜ (length (now rows) ≡ 64) × (length (now ordering) ≡ 64) ⌝ }
+    ensures sound { λ r. ⌜ r .passes ≡ wellFormed (state kind n (now (rows .entry)) k (now (ordering .entry))) ⌝ }
+    ensures words { λ r. ⌜
+        (T (r .passes) →
+        (r .labels ≡ labelsAfter (take n (now (rows .entry))) (take k (now (ordering .entry))) k)
+        × (r .free ≡ freeAfter n (take k (now (ordering .entry))) k))
+        ⌝ }
+{
+    let labels = [0u64; 64];
+    if 64 < n {
+        return Moment {
+            passes: false,
+            free: 0,
+            labels,
+        };
+    }
+    if n < k {
+        return Moment {
+            passes: false,
+            free: 0,
+            labels,
+        };
+    }
+    if row_used_from(rows, n) {
+        return Moment {
+            passes: false,
+            free: 0,
+            labels,
+        };
+    }
+    if entry_used_from(ordering, k) {
+        return Moment {
+            passes: false,
+            free: 0,
+            labels,
+        };
+    }
+    engine::after::after(kind, &rows[..n], &ordering[..k])
+}

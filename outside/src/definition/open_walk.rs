@@ -1,0 +1,84 @@
+//! The open walk of 01, by trying everything: a state that anyone may fill in, and its four calls.
+
+use super::{first_of, judge, offered, plan_refusal, Graph, Kind, Vertex};
+
+#[derive(Clone, PartialEq, Eq, Debug)]
+pub struct OpenWalk {
+    pub kind: Kind,
+    pub n: usize,
+    pub rows: [u64; 64],
+    pub k: usize,
+    pub places: [u8; 64],
+}
+
+/// A refusal's number, or 0.
+pub type Answer = u32;
+
+fn bytes(rows: &[u64]) -> Vec<u8> {
+    rows.iter().flat_map(|row| row.to_le_bytes()).collect()
+}
+
+impl OpenWalk {
+    /// Of kind 0, with n = 0 and everything else 0.
+    fn nothing() -> OpenWalk {
+        OpenWalk { kind: 0, n: 0, rows: [0; 64], k: 0, places: [0; 64] }
+    }
+
+    pub fn open(kind: Kind, rows: &[u64]) -> (OpenWalk, Answer) {
+        if let Some(number) = plan_refusal(kind, &bytes(rows)) {
+            return (OpenWalk::nothing(), number);
+        }
+        let mut walk = OpenWalk { kind, n: rows.len(), ..OpenWalk::nothing() };
+        walk.rows[..rows.len()].copy_from_slice(rows);
+        (walk, 0)
+    }
+
+    /// Its kind and plan are valid, its walk is distinct points of the plan and passes, and unused rows and places are 0.
+    pub fn well_formed(&self) -> bool {
+        self.n <= 64
+            && self.k <= self.n
+            && self.rows[self.n..].iter().all(|&row| row == 0)
+            && self.places[self.k..].iter().all(|&v| v == 0)
+            && judge(self.kind, &bytes(&self.rows[..self.n]), &self.places[..self.k]) == 0
+    }
+
+    fn next_points(&self) -> Vec<Vertex> {
+        let graph = Graph::from_plan(&bytes(&self.rows[..self.n]));
+        offered(self.kind, &graph, &self.places[..self.k])
+    }
+
+    pub fn offered(&self) -> (u64, Answer) {
+        if !self.well_formed() {
+            return (0, 13);
+        }
+        (self.next_points().iter().map(|&v| 1u64 << v).sum(), 0)
+    }
+
+    pub fn place(&self, v: u8) -> (OpenWalk, Answer) {
+        let refusal = first_of(&[
+            (13, &|| !self.well_formed()),
+            (14, &|| self.k == self.n),
+            (8, &|| v as usize >= self.n),
+            (15, &|| self.places[..self.k].contains(&v)),
+            (16, &|| !self.next_points().contains(&(v as Vertex))),
+        ]);
+        let mut next = self.clone();
+        if let Some(number) = refusal {
+            return (next, number);
+        }
+        next.places[self.k] = v;
+        next.k += 1;
+        (next, 0)
+    }
+
+    pub fn take_back(&self) -> (OpenWalk, Answer) {
+        let refusal = first_of(&[(13, &|| !self.well_formed()), (17, &|| self.k == 0)]);
+        let mut next = self.clone();
+        if let Some(number) = refusal {
+            return (next, number);
+        }
+        next.k -= 1;
+        next.places[next.k] = 0;
+        (next, 0)
+    }
+}
