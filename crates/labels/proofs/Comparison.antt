@@ -3,7 +3,7 @@
 --   upper-above, upper-least                what upperBound is
 --   bfs-words, dfs-words, lexBfs-words, generic-words   what the code computes is what aheadIn says
 --   unexcused-*                             likewise for unexcusedIn
---   of-kind, searchOf-other                 from a search to its kind byte
+--   of-kind, searchOf-other, searchOf-mns   from a search to its kind byte
 -- Assumes nothing.
 use mathlib.Core.Path.{_≡_, refl, sym, ap, ap₂, _∙_, subst}
 use mathlib.Core.Bool.{Bool, true, false, cond, not, _&&_, and-comm}
@@ -181,6 +181,28 @@ searchOf-other (suc (suc (suc zero))) a b c d e = absurd (c refl)
 searchOf-other (suc (suc (suc (suc zero)))) a b c d e = absurd (d refl)
 searchOf-other (suc (suc (suc (suc (suc zero))))) a b c d e = absurd (e refl)
 searchOf-other (suc (suc (suc (suc (suc (suc more)))))) a b c d e = refl
+
+-- no other byte names MNS
+pub searchOf-mns : (kind : ℕ) → kind ≢ 5 → searchOf kind ≢ mns
+unfolding searchOf
+searchOf-mns kind other same = go kind other (subst (λ (s : Search). T (isMns s)) (sym same) tt)
+  where
+    isMns : Search → Bool
+    isMns generic = false
+    isMns bfs = false
+    isMns dfs = false
+    isMns lexBfs = false
+    isMns lexDfs = false
+    isMns mns = true
+
+    go : (k : ℕ) → k ≢ 5 → T (isMns (searchOf k)) → ⊥
+    go zero o t = t
+    go (suc zero) o t = t
+    go (suc (suc zero)) o t = t
+    go (suc (suc (suc zero))) o t = t
+    go (suc (suc (suc (suc zero)))) o t = t
+    go (suc (suc (suc (suc (suc zero))))) o t = o refl
+    go (suc (suc (suc (suc (suc (suc more)))))) o t = t
 
 -- ---- who is excused
 

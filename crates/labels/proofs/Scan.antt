@@ -1,21 +1,22 @@
 -- Going through the free vertices from the smallest on, in search of a label that is ahead of `mine`.
 --   Scanned s labels free mine rest   what is left of `free` is `rest`, and what was taken out is not ahead of `mine`
 --   scan-first, scan-lead, scan-champion   a scan that carries the leader along ends with a champion
---   closed-outside, open-champion, closed-behind, open-unbeaten   who is open, by a champion
+--   closed-outside, open-champion, closed-behind, open-level, open-unbeaten   who is open, by a champion
 -- Assumes nothing.
 use mathlib.Core.Path.{_≡_, sym, ap, _∙_, subst}
 use mathlib.Core.Bool.{Bool, true, false, not, _&&_}
+use mathlib.Core.Logic.{⊎-elim, _≢_}
 use mathlib.Core.List.{List}
 use Prim.Native.Nat.{ℕ, _<_, _^_}
 use lib.Dec.{T, not-T, T-not}
 use lib.ListN.{getD}
 use Rattle.bitset.specs.Word.{member, removed}
 use Rattle.bitset.proofs.Tests.{and-in, and-out, is-true, is-false}
-use Rattle.bitset.proofs.Below.{any-at}
+use Rattle.bitset.proofs.Below.{any-out, any-at}
 use Rattle.bitset.proofs.Scan as scan
 use Rattle.bitset.proofs.Scan.{scan-start, scan-next, scan-end}
-use Rattle.searches.specs.Kind.{Search}
-use Rattle.searches.proofs.StrictOrder.{outranks-irreflexive, outranks-transitive}
+use Rattle.searches.specs.Kind.{Search, mns}
+use Rattle.searches.proofs.StrictOrder.{outranks-irreflexive, outranks-transitive, outranks-cotransitive}
 use Rattle.labels.specs.Words.{aheadIn, beatenIn, openIn, Champion}
 
 abbrev pub Scanned : Search → List ℕ → ℕ → ℕ → ℕ → Type 0
@@ -62,6 +63,28 @@ module _ (s : Search) (labels : List ℕ) (free : ℕ) where
       T-not (beatenIn s labels free (getD labels v 0)) (and-out (member free v) (not (beatenIn s labels free (getD labels v 0))) t .1)
       (any-at 64 (λ u. member free u && aheadIn s (getD labels u 0) (getD labels v 0)) best l
       (and-in (member free best) (aheadIn s (getD labels best 0) (getD labels v 0)) (c .inside) ahead))))
+
+  -- but in MNS, who is not behind a champion is behind nobody
+  pub open-level : s ≢ mns → (best v : ℕ) → Champion s labels free best → T (member free v) → (T (aheadIn s (getD labels best 0) (getD labels v 0)) → ⊥)
+      → true ≡ openIn s labels free v
+  unfolding openIn beatenIn aheadIn
+  open-level other best v c t level =
+      sym (is-true (openIn s labels free v)
+      (and-in (member free v) (not (beatenIn s labels free (getD labels v 0))) t (not-T (beatenIn s labels free (getD labels v 0)) unbeaten)))
+    where
+      word : ℕ → ℕ → Bool
+      word u = member (getD labels u 0)
+
+      unbeaten : T (beatenIn s labels free (getD labels v 0)) → ⊥
+      unbeaten x =
+          let some = any-out 64 (λ u. member free u && aheadIn s (getD labels u 0) (getD labels v 0)) x in
+          let u : ℕ = some .at in
+          let both = and-out (member free u) (aheadIn s (getD labels u 0) (getD labels v 0)) (some .holds) in
+          ⊎-elim
+          (λ ahead. c .unbeaten
+          (any-at 64 (λ y. member free y && aheadIn s (getD labels y 0) (getD labels best 0)) u (some .below)
+          (and-in (member free u) (aheadIn s (getD labels u 0) (getD labels best 0)) (both .0) ahead)))
+          level (outranks-cotransitive s other 64 (word u) (word v) (word best) (both .1))
 
   pub open-unbeaten : (v : ℕ) (r : Bool) → T (member free v) → r ≡ beatenIn s labels free (getD labels v 0) → not r ≡ openIn s labels free v
   unfolding openIn

@@ -23,7 +23,7 @@ fn champion(kind: Kind, labels: &[u64; 64], free: u64) -> usize
     best
 }
 
-// Whether `v` is offered. `best` is a champion: it is offered itself, and most others fall to it.
+// Whether `v` is offered. `best` is a champion: it is offered itself, and but in MNS so is whoever it is not ahead of.
 fn is_open(kind: Kind, labels: &[u64; 64], free: u64, best: usize, v: usize) -> bool
     requires { ⌜ Champion (searchOf (kind .0)) (now labels) free best ⌝ }
     ensures { λ r. ⌜ r ≡ openIn (searchOf (kind .0)) (now (labels .entry)) free v ⌝ }
@@ -37,6 +37,9 @@ fn is_open(kind: Kind, labels: &[u64; 64], free: u64, best: usize, v: usize) -> 
     let mine = labels[v];
     if crate::is_ahead(kind, labels[best], mine) {
         return false;
+    }
+    if kind.0 != Kind::MNS.0 {
+        return true;
     }
     !crate::is_beaten(kind, labels, free, mine)
 }

@@ -1,18 +1,24 @@
--- Being ahead is a strict order of labels, in every search by one argument.
+-- Being ahead is a strict order of labels, in every search by one argument, and a weak one in every search but MNS.
 --   side, strict, excuses-is      an excuse stands on one side of what it excuses, and may have to be out of c's label
 --   reason-transitive
 --   outranks-irreflexive, outranks-transitive
+--   lax-cotransitive, connected-cotransitive   the two arguments behind the last law, for searches that are not strict and for strict ones
+--   settled-connected             of two labels that differ, one is ahead
+--   outranks-cotransitive         but in MNS, a third label is behind the one ahead or ahead of the one behind
 -- Assumes nothing.
 use mathlib.Core.Path.{_≡_, refl, sym, subst}
-use mathlib.Core.Bool.{Bool, true, false, not, _&&_}
-use mathlib.Core.Logic.{_⊎_, inl, inr}
+use mathlib.Core.Bool.{Bool, true, false, not, _&&_, _||_}
+use mathlib.Core.Logic.{_⊎_, inl, inr, _≢_}
 use Prim.Native.Nat.{ℕ, _<_}
-use lib.Dec.{T, ltb, not-T}
-use Rattle.bitset.proofs.Tests.{and-in, and-out, and-true, decided}
+use lib.Dec.{T, ltb, eqb, eqb→eq, eqb-refl, not-T, T-not}
+use Rattle.bitset.specs.Below.{anyBelow, firstBelow, lastBelow, differ}
+use Rattle.bitset.proofs.Tests.{and-in, and-out, and-true, or-inl, or-inr, or-out, decided}
+use Rattle.bitset.proofs.Below.{Some, any-out, any-at}
+use Rattle.bitset.proofs.Sets.{differ-in, differ-out, differ-other, differ-same}
 use Rattle.searches.specs.Kind.{Search, generic, bfs, dfs, lexBfs, lexDfs, mns}
 use Rattle.searches.specs.Label.{outranks}
 use Rattle.searches.specs.Violation.{excuses}
-use Rattle.searches.proofs.Reason.{Reason, outranks→reason, reason→outranks, earlier, later, low-end, high-end}
+use Rattle.searches.proofs.Reason.{Reason, outranks→reason, reason→outranks, End, earlier, later, low-end, high-end}
 
 -- An excuse of position i stands anywhere, before it or after it, and in three of the searches it must not be in c's label.
 data Side : Type 0 where
@@ -121,3 +127,124 @@ module _ (s : Search) where
   pub outranks-transitive : (k : ℕ) (c b a : ℕ → Bool) → T (outranks s k c b) → T (outranks s k b a) → T (outranks s k c a)
   outranks-transitive k c b a t u =
       reason→outranks k c a s (reason-transitive k c b a (outranks→reason k c b s t) (outranks→reason k b a s u))
+
+-- ---- a weak order
+
+-- of a search with reasons of this kind: a third label is behind the one ahead or ahead of the one behind
+abbrev Cotransitive : (ℕ → ℕ → Bool → Bool) → Type 0
+Cotransitive bar = (k : ℕ) (c b a : ℕ → Bool) → Reason bar k c b → Reason bar k c a ⊎ Reason bar k a b
+
+module _ (s : Search) where
+  -- where it does not matter what is in c's label: a has a position as near as c's reason, or none
+  lax-cotransitive : strict s ≡ false → Cotransitive (excuses s)
+  lax-cotransitive lax k c b a r = go (decided (anyBelow k close))
+    where
+      i : ℕ
+      i = r .position
+
+      from-i : ℕ → Bool
+      from-i d = eqb i d || near (side s) i d
+
+      close : ℕ → Bool
+      close d = a d && from-i d
+
+      far : (d : ℕ) → d < k → T (b d) → T (from-i d) → ⊥
+      far d l p t = at (or-out (eqb i d) (near (side s) i d) t)
+        where
+          at : T (eqb i d) ⊎ T (near (side s) i d) → ⊥
+          at (inl e) = r .theirs (subst (λ (x : ℕ). T (b x)) (sym (eqb→eq i d e)) p)
+          at (inr n) = r .unexcused d l p (excuse-in s i d (c d) n (subst (λ (x : Bool). T (not (x && c d))) (sym lax) tt))
+
+      onward : (j d : ℕ) → T (from-i j) → T (near (side s) j d) → T (from-i d)
+      onward j d t n = or-inr (eqb i d) (near (side s) i d) (at (or-out (eqb i j) (near (side s) i j) t))
+        where
+          at : T (eqb i j) ⊎ T (near (side s) i j) → T (near (side s) i d)
+          at (inl e) = subst (λ (x : ℕ). T (near (side s) x d)) (sym (eqb→eq i j e)) n
+          at (inr m) = near-chain (side s) i j d m n
+
+      go : T (anyBelow k close) ⊎ (T (anyBelow k close) → ⊥) → Reason (excuses s) k c a ⊎ Reason (excuses s) k a b
+      go (inl t) =
+          let x = any-out k close t in
+          let both = and-out (a (x .at)) (from-i (x .at)) (x .holds) in
+          inr (record {
+            position = x .at;
+            below = x .below;
+            ours = both .0;
+            theirs = λ p. far (x .at) (x .below) p (both .1);
+            unexcused = λ d l p e. far d l p (onward (x .at) d (both .1) (excuse-out s (x .at) d (a d) e .0));
+          })
+      go (inr none) = inl (record {
+        position = i;
+        below = r .below;
+        ours = r .ours;
+        theirs = λ p. none (any-at k close i (r .below) (and-in (a i) (from-i i) p (or-inl (eqb i i) (near (side s) i i) (eqb-refl i))));
+        unexcused = λ d l p e. none (any-at k close d l (and-in (a d) (from-i d) p (or-inr (eqb i d) (near (side s) i d) (excuse-out s i d (c d) e .0))));
+      })
+
+  -- where of two labels that differ one is ahead
+  connected-cotransitive : ((k : ℕ) (c a : ℕ → Bool) → T (anyBelow k (differ c a)) → Reason (excuses s) k c a ⊎ Reason (excuses s) k a c)
+      → Cotransitive (excuses s)
+  connected-cotransitive connected k c b a r = go (decided (anyBelow k (differ c a)))
+    where
+      turned : Reason (excuses s) k c a ⊎ Reason (excuses s) k a c → Reason (excuses s) k c a ⊎ Reason (excuses s) k a b
+      turned (inl x) = inl x
+      turned (inr x) = inr (reason-transitive s k a c b x r)
+
+      go : T (anyBelow k (differ c a)) ⊎ (T (anyBelow k (differ c a)) → ⊥) → Reason (excuses s) k c a ⊎ Reason (excuses s) k a b
+      go (inl t) = turned (connected k c a t)
+      go (inr none) = inr (record {
+        position = r .position;
+        below = r .below;
+        ours = subst (λ (x : Bool). T x) (same (r .position) (r .below)) (r .ours);
+        theirs = r .theirs;
+        unexcused = λ d l p e. r .unexcused d l p (subst (λ (x : Bool). T (excuses s (r .position) d x)) (sym (same d l)) e);
+      })
+        where
+          same : (d : ℕ) → d < k → c d ≡ a d
+          same d l = differ-same c a d (λ t. none (any-at k (differ c a) d l t))
+
+module _ (before : ℕ → ℕ → Bool) (pick : ℕ → (ℕ → Bool) → ℕ) (e : End before pick) (k : ℕ) (c a : ℕ → Bool) where
+  -- the first position in which they differ settles it
+  settled-connected : T (anyBelow k (differ c a)) → Reason (λ i d inC. before d i && not inC) k c a ⊎ Reason (λ i d inC. before d i && not inC) k a c
+  settled-connected t = go (decided (c i))
+    where
+      some : Some k (differ c a)
+      some = any-out k (differ c a) t
+
+      i : ℕ
+      i = pick k (differ c a)
+
+      agree : (d : ℕ) → d < k → T (before d i) → T (differ c a d) → ⊥
+      agree d l n x = e .ahead k (differ c a) d l x n
+
+      go : T (c i) ⊎ (T (c i) → ⊥) → Reason (λ i d inC. before d i && not inC) k c a ⊎ Reason (λ i d inC. before d i && not inC) k a c
+      go (inl p) = inl (record {
+        position = i;
+        below = e .inside some;
+        ours = p;
+        theirs = differ-out c a i (e .holds some) .0 p;
+        unexcused = λ d l q x. let y = and-out (before d i) (not (c d)) x in agree d l (y .0) (differ-other c a d (T-not (c d) (y .1)) q);
+      })
+      go (inr out) = inr (record {
+        position = i;
+        below = e .inside some;
+        ours = differ-out c a i (e .holds some) .1 out;
+        theirs = out;
+        unexcused = λ d l q x. let y = and-out (before d i) (not (a d)) x in agree d l (y .0) (differ-in c a d q (T-not (a d) (y .1)));
+      })
+
+reason-cotransitive : (s : Search) → s ≢ mns → Cotransitive (excuses s)
+unfolding excuses strict
+reason-cotransitive generic other = lax-cotransitive generic refl
+reason-cotransitive bfs other = lax-cotransitive bfs refl
+reason-cotransitive dfs other = lax-cotransitive dfs refl
+reason-cotransitive lexBfs other = connected-cotransitive lexBfs (settled-connected earlier firstBelow low-end)
+reason-cotransitive lexDfs other = connected-cotransitive lexDfs (settled-connected later lastBelow high-end)
+reason-cotransitive mns other = absurd (other refl)
+
+pub outranks-cotransitive : (s : Search) → s ≢ mns → (k : ℕ) (c b a : ℕ → Bool) → T (outranks s k c b) → T (outranks s k c a) ⊎ T (outranks s k a b)
+outranks-cotransitive s other k c b a t = go (reason-cotransitive s other k c b a (outranks→reason k c b s t))
+  where
+    go : Reason (excuses s) k c a ⊎ Reason (excuses s) k a b → T (outranks s k c a) ⊎ T (outranks s k a b)
+    go (inl r) = inl (reason→outranks k c a s r)
+    go (inr r) = inr (reason→outranks k a b s r)

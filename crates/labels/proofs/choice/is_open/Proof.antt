@@ -3,13 +3,15 @@
 use Prim.Native.Nat.{ℕ, _<_}
 use mathlib.Core.Path.{sym, ap, _∙_}
 use native.Mathlib.Omega.{arith}
+use lib.Dec.{T}
 use lib.ListN.{getD}
 use Rattle.bitset.specs.Word.{member}
 use Rattle.bitset.proofs.Tests.{not-true, not-false, said-true, said-false}
 use Rattle.bitset.proofs.Word.{member-below}
 use Rattle.searches.specs.Kind.{searchOf}
 use Rattle.labels.specs.Words.{aheadIn, openIn}
-use Rattle.labels.proofs.Scan.{closed-outside, open-champion, closed-behind, open-unbeaten}
+use Rattle.labels.proofs.Comparison.{searchOf-mns}
+use Rattle.labels.proofs.Scan.{closed-outside, open-champion, closed-behind, open-level, open-unbeaten}
 use borrow.Author.Needs.{needs}
 use Rattle.labels.proofs.choice.is_open.Statement.{statement}
 use Rattle.labels.proofs.choice.is_open.Tie as tie
@@ -36,8 +38,12 @@ returns-2 c =
     let k = searchOf (a .kind .0) in
     open-champion k (a .labels .now) (a .free) (a .best) (s .pre) ∙ ap (λ (v : ℕ). openIn k (a .labels .now) (a .free) v) (sym (c .if2 .taken))
 
+-- v is free
+unplaced : (c : lts.Else2 (contains-reads.Asked, contains-reads.Learnt, is-ahead-reads.Asked, is-ahead-reads.Learnt, is-beaten-reads.Asked, is-beaten-reads.Learnt) reads.Pre reads.Post) → T (member (c .before .before .before .args .free) (c .before .before .before .args .v))
+unplaced c = let a = c .before .before .before .args in said-true (member (a .free) (a .v)) (c .before .before .contains .ensures) (not-false (c .before .before .contains .result) (c .before .if1 .left))
+
 inside : (c : lts.Else2 (contains-reads.Asked, contains-reads.Learnt, is-ahead-reads.Asked, is-ahead-reads.Learnt, is-beaten-reads.Asked, is-beaten-reads.Learnt) reads.Pre reads.Post) → c .before .before .before .args .v < 64
-inside c = let s = c .before .before .before in member-below 64 (s .fits .free .fits) (s .args .v) (said-true (member (s .args .free) (s .args .v)) (c .before .before .contains .ensures) (not-false (c .before .before .contains .result) (c .before .if1 .left)))
+inside c = let s = c .before .before .before in member-below 64 (s .fits .free .fits) (s .args .v) (unplaced c)
 
 mul-mine : tie.Need-mul-mine
 mul-mine c = omega (arith, inside c)
@@ -62,16 +68,25 @@ returns-3 c =
     closed-behind k (a .labels .now) (a .free) (a .best) (a .v) (member-below 64 (s .fits .free .fits) (a .best) (s .pre .inside)) (s .pre)
     (said-true (aheadIn k (getD (a .labels .now) (a .best) 0) (getD (a .labels .now) (a .v) 0)) (c .before .is-ahead .ensures) (c .if3 .taken))
 
+returns-4 : tie.Need-returns-4
+returns-4 c =
+    let level = c .before .before .before in
+    let v = level .before .before .before .before in
+    let s = v .before .before .before in
+    let a = s .args in
+    let k = searchOf (a .kind .0) in
+    open-level k (a .labels .now) (a .free) (searchOf-mns (a .kind .0) (c .if4 .taken)) (a .best) (a .v) (s .pre) (unplaced v)
+    (said-false (aheadIn k (getD (a .labels .now) (a .best) 0) (getD (a .labels .now) (a .v) 0)) (level .before .is-ahead .ensures) (level .if3 .left))
+
 is-beaten-requires : tie.Need-is-beaten-requires
 is-beaten-requires c κs = search needs
 
-returns-4 : tie.Need-returns-4
-returns-4 c =
-    let s = c .before .before .before .before .before .before .before .before in
-    let a = s .args in
+returns-5 : tie.Need-returns-5
+returns-5 c =
+    let v = c .before .before .before .before .before .before .before .before in
+    let a = v .before .before .before .args in
     let k = searchOf (a .kind .0) in
-    open-unbeaten k (a .labels .now) (a .free) (a .v) (c .is-beaten .result)
-    (said-true (member (a .free) (a .v)) (c .before .before .before .before .before .before .before .contains .ensures) (not-false (c .before .before .before .before .before .before .before .contains .result) (c .before .before .before .before .before .before .if1 .left))) (c .is-beaten .ensures)
+    open-unbeaten k (a .labels .now) (a .free) (a .v) (c .is-beaten .result) (unplaced v) (c .is-beaten .ensures)
 
 pub is-open-spec : {M : Type 1} → statement M
 is-open-spec =
@@ -86,5 +101,6 @@ is-open-spec =
     element-copy-out-is-ahead
     is-ahead-requires
     returns-3
+    returns-4
     is-beaten-requires
-    returns-4)
+    returns-5)
