@@ -7,8 +7,8 @@
 --   member-zero, member-power                          the members of 0 and of 2 ^ e
 --   ones-digits, member-ones                           the digits and the members of 2 ^ n - 1
 --   one-shifted                                        what the machine makes of `1 << e`
---   member-inserted, member-removed, member-difference, member-fullBelow   the members of the sets of specs/Word
---   inserted-word, removed-word, difference-word, fullBelow-word           those sets are words of 64 bits
+--   member-inserted, member-removed, member-difference, member-united, member-common, member-fullBelow   the members of the sets of specs/Word
+--   inserted-word, removed-word, difference-word, common-word, fullBelow-word   those sets are words of 64 bits
 --   equal-members                                      words with the same members are equal
 --   empty, empty-back, some-member                     0 has no member, and no other word has none
 --   size-counts, trailing-first, leading-last          the machine's counts: how many members, the first and the last
@@ -29,7 +29,7 @@ use lib.Bits as bits
 use lib.Bits.{bitAnd, bitOr, bitXor, and-step, or-step, xor-step, and-shr, or-shr, xor-shr, or-lt, xor-lt, and-le-l}
 use lib.Count.{ones, ones-step, leadingZeros, leading-top, leading-of-zero, trailingZeros, under}
 use Rattle.bitset.specs.Below.{anyBelow, firstBelow, lastBelow, countBelow, differ}
-use Rattle.bitset.specs.Word.{member, inserted, removed, difference, fullBelow, upperBound}
+use Rattle.bitset.specs.Word.{member, inserted, removed, difference, united, common, fullBelow, upperBound}
 use Rattle.bitset.proofs.Tests.{is-true, is-false, decided, below-or}
 use Rattle.bitset.proofs.Below.{Some, any-out, any-in, any-at, first-same, first-bottom, IsLast, last-unique}
 use Rattle.bitset.proofs.Count.{count-same, count-bottom}
@@ -152,6 +152,14 @@ member-difference x y p =
     go true false = refl
     go false b = refl
 
+pub member-united : (x y p : ℕ) → member (united x y) p ≡ (member x p || member y p)
+unfolding united
+member-united = member-or
+
+pub member-common : (x y p : ℕ) → member (common x y) p ≡ (member x p && member y p)
+unfolding common
+member-common = member-and
+
 -- 2 ^ n - 1 has its n lowest bits set: the lowest, and the rest
 pub ones-digits : (n : ℕ) → ((2 ^ suc n - 1) % 2 ≡ 1) × ((2 ^ suc n - 1) / 2 ≡ 2 ^ n - 1)
 ones-digits n = omega (arith, pow-suc 2 n, pow-pos n)
@@ -187,6 +195,10 @@ removed-word {x} h e = go (member x e) (member-below 64 h e)
 pub difference-word : {x : ℕ} → x < 2 ^ 64 → (y : ℕ) → difference x y < 2 ^ 64
 unfolding difference
 difference-word {x} h y = xor-lt 64 x (bitAnd x y) h (lt-of-le-of-lt (and-le-l x y) h)
+
+pub common-word : {x : ℕ} → x < 2 ^ 64 → (y : ℕ) → common x y < 2 ^ 64
+unfolding common
+common-word {x} h y = lt-of-le-of-lt (and-le-l x y) h
 
 pub fullBelow-word : (n : ℕ) → fullBelow n < 2 ^ 64
 unfolding fullBelow

@@ -3,6 +3,8 @@
 --   inserted x p      the set x and p; x itself where p is 64 or more
 --   removed x p       the set x without p
 --   difference x y    the numbers of x that are not in y
+--   united x y        the numbers that are in x or in y
+--   common x y        the numbers that are in both
 --   fullBelow n       the set of the numbers below n; of all 64 where n is more
 --   fromUp n x p      p is in the set x, and n or more
 --   upperBound x      the least number above all of x; 0 where x is empty
@@ -23,6 +25,12 @@ removed x p = cond (member x p) (bitXor x (2 ^ p)) x
 
 unfoldable pub difference : ℕ → ℕ → ℕ
 difference x y = bitXor x (bitAnd x y)
+
+unfoldable pub united : ℕ → ℕ → ℕ
+united x y = bitOr x y
+
+unfoldable pub common : ℕ → ℕ → ℕ
+common x y = bitAnd x y
 
 unfoldable pub fullBelow : ℕ → ℕ
 fullBelow n = 2 ^ min n 64 - 1

@@ -2,7 +2,7 @@
 ghost use mathlib.Core.Path.{_≡_};
 ghost use mathlib.Core.Bool.{_&&_};
 ghost use Rattle.bitset.specs.Below.{anyBelow, firstBelow, lastBelow, countBelow, differ, within};
-ghost use Rattle.bitset.specs.Word.{member, inserted, removed, difference, fullBelow, fromUp, upperBound};
+ghost use Rattle.bitset.specs.Word.{member, inserted, removed, difference, united, common, fullBelow, fromUp, upperBound};
 
 // Whether `element` is in the set; no number from 64 up is.
 pub fn contains(set: u64, element: usize) -> bool
@@ -42,6 +42,20 @@ pub fn without(a: u64, b: u64) -> u64
     ensures { λ r. ⌜ r ≡ difference a b ⌝ }
 {
     a ^ (a & b)
+}
+
+// The numbers that are in `a` or in `b`.
+pub fn union(a: u64, b: u64) -> u64
+    ensures { λ r. ⌜ r ≡ united a b ⌝ }
+{
+    a | b
+}
+
+// The numbers that are in both sets.
+pub fn common(a: u64, b: u64) -> u64
+    ensures { λ r. ⌜ r ≡ common a b ⌝ }
+{
+    a & b
 }
 
 // The set of the numbers below `n`; of all 64 where `n` is more.

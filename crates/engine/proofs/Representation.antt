@@ -5,6 +5,7 @@
 --   member-joined                            what is then in one label
 --   labels-length, label-members             labelsAfter: 64 words, which hold the labels
 --   free-word, free-members                  freeAfter: a word, which holds the unplaced vertices;   free-unplaced, free-vertex
+--   after-covers, reached-covers             reachedAfter: nobody else has a position in its label
 --   ahead-same, beaten-same, open-offered    who is ahead, who is beaten, who is offered
 -- Assumes nothing.
 use mathlib.Core.Path.{_≡_, refl, sym, ap, ap₂, _∙_, subst}
@@ -28,9 +29,10 @@ use Rattle.searches.specs.Run.{offered}
 use Rattle.searches.specs.Violation.{excuses}
 use Rattle.searches.proofs.Reason.{Reason, outranks→reason, reason→outranks}
 use Rattle.searches.proofs.Ordering.{ordering-fits}
-use Rattle.labels.specs.Words.{aheadIn, joinedIn, spreadTo, beatenIn, openIn}
+use Rattle.labels.specs.Words.{aheadIn, joinedIn, spreadTo, beatenIn, openIn, Covers}
 use Rattle.labels.proofs.Spreading.{spread-above}
-use Rattle.engine.specs.Steps.{labelsAfter, freeAfter}
+use Rattle.labels.proofs.Reached.{covers-spread}
+use Rattle.engine.specs.Steps.{labelsAfter, freeAfter, reachedAfter}
 
 -- ---- laws of tests
 
@@ -180,6 +182,19 @@ module _ (rows w : List ℕ) (k : ℕ) (small : length rows ≤ 64) (o : IsOrder
       ap (λ (x : ℕ). member x p) (spread-at row j labels (length rows) v (omega (arith, labels-length rows w j)) l)
       ∙ member-joined row j v (getD labels v 0) (omega (arith, ordering-fits (length rows) o)) p
       ∙ ap (λ (b : Bool). (eqb j p && member row v) || b) (label-members j (omega arith) v l p) ∙ suc-split j p (label (arcs rows) w v)
+
+pub after-covers : (rows w : List ℕ) (j : ℕ) → Covers (reachedAfter rows w j) (labelsAfter rows w j)
+unfolding reachedAfter labelsAfter
+after-covers rows w zero = λ v l out. getD-replicate 64 v 0 0 l
+after-covers rows w (suc j) =
+    covers-spread (labelsAfter rows w j) (reachedAfter rows w j) (getD rows (at w j) 0) j (length rows) (after-covers rows w j) refl refl
+
+-- the same of words that are those
+pub reached-covers : (rows w : List ℕ) (j : ℕ) {labels : List ℕ} {reached : ℕ} → labels ≡ labelsAfter rows w j → reached ≡ reachedAfter rows w j
+    → Covers reached labels
+reached-covers rows w j {labels} {reached} at-labels at-reached =
+    subst (λ (x : ℕ). Covers x labels) (sym at-reached)
+    (subst (λ (ls : List ℕ). Covers (reachedAfter rows w j) ls) (sym at-labels) (after-covers rows w j))
 
 -- ---- who is ahead, beaten, offered
 

@@ -1,6 +1,7 @@
 -- An ordering placed step by step on labels that are kept as words.
 --   labelsAfter rows w j          the labels after the first j vertices of w
 --   freeAfter n w j               the vertices below n that are not among the first j of w
+--   reachedAfter rows w j         the vertices that the first j of w lead to
 --   stopsAt s rows w j            the vertex at position j of w is beaten when its turn comes
 --   violatesIn s rows w labels free j i c   the vertices at i and j and c are a violation, seen at j's turn
 --   lastIn, firstIn               candidate e for c, position i of a take part in one
@@ -10,18 +11,19 @@
 --   Extendable rows t out k       likewise, t is a tie-break for it, and out has room for all vertices
 --   Replayable rows w k labels    the first k entries of w are vertices of a graph of at most 64, and the labels are empty
 --   Searchable rows w k j         likewise, and j is one of the first k positions
-use Prim.Native.Nat.{ℕ, zero, suc, _+_, _≤_, _<_}
+--   Fillable rows tail k labels reached   tail has room for the vertices from position k on, and nobody outside `reached` has a label
+use Prim.Native.Nat.{ℕ, zero, suc, _+_, _-_, _≤_, _<_}
 use mathlib.Core.Path.{_≡_}
 use mathlib.Core.Bool.{Bool, not, _&&_}
 use mathlib.Core.List.{List, [], _∷_}
 use lib.Dec.{eqb}
 use lib.ListN.{length, getD, replicate}
 use Rattle.bitset.specs.Below.{anyBelow, firstBelow}
-use Rattle.bitset.specs.Word.{member, removed, fullBelow}
+use Rattle.bitset.specs.Word.{member, removed, united, fullBelow}
 use Rattle.searches.specs.Kind.{Search}
 use Rattle.searches.specs.Ordering.{arcs, at, IsOrdering, IsFullOrdering}
 use Rattle.searches.specs.Violation.{third, Verdict, fails}
-use Rattle.labels.specs.Words.{unexcusedIn, spreadTo, beatenIn, chosenIn}
+use Rattle.labels.specs.Words.{unexcusedIn, spreadTo, beatenIn, chosenIn, Covers}
 
 unfoldable pub labelsAfter : List ℕ → List ℕ → ℕ → List ℕ
 labelsAfter rows w zero = replicate 64 0
@@ -30,6 +32,10 @@ labelsAfter rows w (suc j) = spreadTo (getD rows (at w j) 0) j (length rows) (la
 unfoldable pub freeAfter : ℕ → List ℕ → ℕ → ℕ
 freeAfter n w zero = fullBelow n
 freeAfter n w (suc j) = removed (freeAfter n w j) (at w j)
+
+unfoldable pub reachedAfter : List ℕ → List ℕ → ℕ → ℕ
+reachedAfter rows w zero = 0
+reachedAfter rows w (suc j) = united (reachedAfter rows w j) (getD rows (at w j) 0)
 
 module _ (s : Search) where
   unfoldable pub stopsAt : List ℕ → List ℕ → ℕ → Bool
@@ -73,6 +79,12 @@ pub record Searchable (rows w : List ℕ) (k j : ℕ) : Type 0 where
   pub fits : k ≤ length rows
   pub small : length rows ≤ 64
   pub vertices : (p : ℕ) → p < k → at w p < length rows
+
+pub record Fillable (rows tail : List ℕ) (k : ℕ) (labels : List ℕ) (reached : ℕ) : Type 0 where
+  pub fits : k ≤ length rows
+  pub small : length rows ≤ 64
+  pub room : length rows - k ≤ length tail
+  pub covers : Covers reached labels
 
 pub record Judgeable (rows w : List ℕ) (k : ℕ) : Type 0 where
   pub small : length rows ≤ 64

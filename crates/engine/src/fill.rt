@@ -3,10 +3,10 @@ use searches::Kind;
 use searches::Position;
 ghost use mathlib.Core.Path.{_≡_};
 ghost use mathlib.Core.List.{_++_};
-ghost use Prim.Native.Nat.{_-_, _≤_};
+ghost use Prim.Native.Nat.{_-_};
 ghost use lib.ListN.{length, drop, getD};
 ghost use Rattle.searches.specs.Kind.{searchOf};
-ghost use Rattle.engine.specs.Steps.{fillIn};
+ghost use Rattle.engine.specs.Steps.{fillIn, Fillable};
 
 // The row of vertex `v`; no arcs behind the last row.
 fn row_of(rows: &[u64], v: usize) -> u64
@@ -15,8 +15,8 @@ fn row_of(rows: &[u64], v: usize) -> u64
     if v < rows.len() { rows[v] } else { 0 }
 }
 
-// Writes the vertices that carry on from position `k` into `tail`, whose first bytes are the positions from `k` on; `labels` and `free` are
-// those after the first `k`.
+// Writes the vertices that carry on from position `k` into `tail`, whose first bytes are the positions from `k` on; `labels`, `free`
+// and `reached` are those after the first `k`.
 pub fn fill(
     kind: Kind,
     rows: &[u64],
@@ -25,8 +25,9 @@ pub fn fill(
     k: usize,
     labels: &mut [u64; 64],
     free: u64,
+    reached: u64,
 )
-    requires { ⌜ (k ≤ length (now rows)) × ((length (now rows) ≤ 64) × (length (now rows) - k ≤ length (now tail))) ⌝ }
+    requires { ⌜ Fillable (now rows) (now tail) k (now labels) reached ⌝ }
     ensures { λ r. ⌜
         now (tail .exit)
         ≡ fillIn (searchOf (kind .0)) (now (rows .entry)) (now («tie_break» .entry)) (length (now (rows .entry)) - k) k (now (labels .entry)) free
@@ -34,12 +35,14 @@ pub fn fill(
         ⌝ }
 {
     let mut unplaced = free;
+    let mut met = reached;
     let count = rows.len() - k;
     for i in 0..count {
-        let v = labels::choice::choose(kind, labels, unplaced, tie_break);
+        let v = labels::choice::choose(kind, labels, unplaced, met, tie_break);
         tail[i] = v;
         let row = row_of(rows, v as usize);
         labels::spread(labels, row, Position(k + i), rows.len());
         unplaced = bitset::remove(unplaced, v as usize);
+        met = bitset::union(met, row);
     }
 }

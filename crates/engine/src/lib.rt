@@ -91,6 +91,7 @@ fn extend(kind: Kind, rows: &[u64], tie_break: &[u8], output: &mut [u8], k: usiz
         return Outcome::Refused(Refusal::StartFails);
     }
     let free = placed.free;
+    let reached = placed.reached;
     fill::fill(
         kind,
         rows,
@@ -99,6 +100,7 @@ fn extend(kind: Kind, rows: &[u64], tie_break: &[u8], output: &mut [u8], k: usiz
         k,
         &mut labels,
         free,
+        reached,
     );
     Outcome::Done
 }

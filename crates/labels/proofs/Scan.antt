@@ -10,14 +10,15 @@ use mathlib.Core.List.{List}
 use Prim.Native.Nat.{ℕ, _<_, _^_}
 use lib.Dec.{T, not-T, T-not}
 use lib.ListN.{getD}
-use Rattle.bitset.specs.Word.{member, removed}
+use Rattle.bitset.specs.Word.{member, removed, common}
 use Rattle.bitset.proofs.Tests.{and-in, and-out, is-true, is-false}
 use Rattle.bitset.proofs.Below.{any-out, any-at}
 use Rattle.bitset.proofs.Scan as scan
 use Rattle.bitset.proofs.Scan.{scan-start, scan-next, scan-end}
 use Rattle.searches.specs.Kind.{Search, mns}
 use Rattle.searches.proofs.StrictOrder.{outranks-irreflexive, outranks-transitive, outranks-cotransitive}
-use Rattle.labels.specs.Words.{aheadIn, beatenIn, openIn, Champion}
+use Rattle.labels.specs.Words.{aheadIn, beatenIn, openIn, Champion, Covers}
+use Rattle.labels.proofs.Reached.{beaten-reached}
 
 abbrev pub Scanned : Search → List ℕ → ℕ → ℕ → ℕ → Type 0
 Scanned s labels free mine rest = scan.Scanned 64 free (λ u. aheadIn s (getD labels u 0) mine) rest
@@ -40,9 +41,14 @@ module _ (s : Search) (labels : List ℕ) (free : ℕ) where
   unfolding aheadIn
   scan-first best h = scan-next (scan-start 64 _ h) best (λ l. outranks-irreflexive s 64 (member (getD labels best 0)))
 
-  pub scan-champion : (best rest : ℕ) → T (member free best) → Scanned s labels free (getD labels best 0) rest → rest ≡ 0 → Champion s labels free best
+  -- a scan of the reached ones is enough
+  pub scan-champion : (reached best rest : ℕ) {front : ℕ} → Covers reached labels → front ≡ common free reached → T (member free best)
+      → Scanned s labels front (getD labels best 0) rest → rest ≡ 0 → Champion s labels free best
   unfolding beatenIn
-  scan-champion best rest t r over = record { inside = t; unbeaten = λ x. subst (λ (b : Bool). T b) (sym (scan-end r over)) x }
+  scan-champion reached best rest covers e t r over = record {
+    inside = t;
+    unbeaten = λ x. subst (λ (b : Bool). T b) (sym (scan-end r over ∙ beaten-reached s labels reached covers free (getD labels best 0) e)) x;
+  }
 
   -- ---- who is open, by a champion
 

@@ -1,6 +1,7 @@
 -- Putting a position into the labels of the numbers of a row, from the row's smallest number on.
 --   spread-above      the labels from the bound up are as they were
 --   spread-none       an empty row changes no label
+--   spread-outside    a number that is not in the row keeps its label
 --   spread-beyond     a number from the bound up may be taken out of the row
 --   spread-apart      a label from the bound up may be written before or after
 --   spread-one        a number below the bound may be taken out of the row once its label is written
@@ -17,7 +18,7 @@ use lib.Dec.{T}
 use lib.ListN.{getD, set}
 use lib.Seq.{getD-set-other, set-getD, set-comm}
 use Rattle.bitset.specs.Word.{member, inserted, removed}
-use Rattle.bitset.proofs.Tests.{cond-yes, cond-no, below-suc}
+use Rattle.bitset.proofs.Tests.{cond-yes, cond-no, below-suc, three-ways}
 use Rattle.bitset.proofs.Scan.{removed-in, removed-other}
 use Rattle.bitset.proofs.Word as word
 use Rattle.labels.specs.Words.{joinedIn, spreadTo}
@@ -43,6 +44,19 @@ pub spread-none : (p n : ℕ) (labels : List ℕ) → spreadTo 0 p n labels ≡ 
 unfolding spreadTo
 spread-none p zero labels = refl
 spread-none p (suc i) labels = step-absent 0 p i (spreadTo 0 p i labels) (word.empty-back refl i) ∙ spread-none p i labels
+
+pub spread-outside : (row p : ℕ) (labels : List ℕ) (n v : ℕ) → (T (member row v) → ⊥) → getD (spreadTo row p n labels) v 0 ≡ getD labels v 0
+unfolding spreadTo
+spread-outside row p labels zero v out = refl
+spread-outside row p labels (suc i) v out = go (three-ways i v) ∙ spread-outside row p labels i v out
+  where
+    done : List ℕ
+    done = spreadTo row p i labels
+
+    go : (i < v) ⊎ ((i ≡ v) ⊎ (v < i)) → getD (set done i (joinedIn row p i (getD done i 0))) v 0 ≡ getD done v 0
+    go (inl l) = getD-set-other done i v _ 0 (omega arith)
+    go (inr (inl e)) = ap (λ (ls : List ℕ). getD ls v 0) (step-absent row p i done (λ t. out (subst (λ (x : ℕ). T (member row x)) e t)))
+    go (inr (inr l)) = getD-set-other done i v _ 0 (omega arith)
 
 module _ (p : ℕ) (labels : List ℕ) where
   -- the step at i is the same with another number taken out of the row

@@ -7,7 +7,9 @@
 --   openIn s labels free v        v is free and not beaten
 --   chosenIn s labels free t      of the open vertices, the one that stands last in t
 --   Champion s labels free v      v is free and not beaten, condition by condition
-use Prim.Native.Nat.{ℕ, zero, suc}
+--   Covers reached labels         every vertex whose label is not empty is in `reached`
+use Prim.Native.Nat.{ℕ, zero, suc, _<_}
+use mathlib.Core.Path.{_≡_}
 use mathlib.Core.Bool.{Bool, cond, not, _&&_}
 use mathlib.Core.List.{List}
 use lib.Dec.{T}
@@ -45,3 +47,6 @@ module _ (s : Search) where
 pub record Champion (s : Search) (labels : List ℕ) (free v : ℕ) : Type 0 where
   pub inside : T (member free v)
   pub unbeaten : T (beatenIn s labels free (getD labels v 0)) → ⊥
+
+abbrev pub Covers : ℕ → List ℕ → Type 0
+Covers reached labels = (v : ℕ) → v < 64 → (T (member reached v) → ⊥) → getD labels v 0 ≡ 0

@@ -4,15 +4,19 @@ ghost use mathlib.Core.Path.{_≡_};
 ghost use Prim.Native.Nat.{_<_};
 ghost use Rattle.searches.specs.Kind.{searchOf};
 ghost use Rattle.searches.specs.Ordering.{at};
-ghost use Rattle.labels.specs.Words.{Champion, openIn, chosenIn};
+ghost use Rattle.labels.specs.Words.{Champion, Covers, openIn, chosenIn};
 
-// A vertex of `free`, which is not empty, that no other vertex of it is ahead of.
-fn champion(kind: Kind, labels: &[u64; 64], free: u64) -> usize
-    requires { ⌜ 0 < free ⌝ }
+// A vertex of `free`, which is not empty, that no other vertex of it is ahead of. Only one that is reached is ahead of another.
+fn champion(kind: Kind, labels: &[u64; 64], free: u64, reached: u64) -> usize
+    requires { ⌜ (0 < free) × Covers reached (now labels) ⌝ }
     ensures { λ r. ⌜ Champion (searchOf (kind .0)) (now (labels .entry)) free r ⌝ }
 {
-    let mut best = bitset::smallest(free);
-    let mut rest = bitset::without_smallest(free);
+    let front = bitset::common(free, reached);
+    if front == 0 {
+        return bitset::smallest(free);
+    }
+    let mut best = bitset::smallest(front);
+    let mut rest = bitset::without_smallest(front);
     while rest != 0 {
         let u = bitset::smallest(rest);
         if crate::is_ahead(kind, labels[u], labels[best]) {
@@ -24,8 +28,8 @@ fn champion(kind: Kind, labels: &[u64; 64], free: u64) -> usize
 }
 
 // Whether `v` is offered. `best` is a champion: it is offered itself, and but in MNS so is whoever it is not ahead of.
-fn is_open(kind: Kind, labels: &[u64; 64], free: u64, best: usize, v: usize) -> bool
-    requires { ⌜ Champion (searchOf (kind .0)) (now labels) free best ⌝ }
+fn is_open(kind: Kind, labels: &[u64; 64], free: u64, reached: u64, best: usize, v: usize) -> bool
+    requires { ⌜ Champion (searchOf (kind .0)) (now labels) free best × Covers reached (now labels) ⌝ }
     ensures { λ r. ⌜ r ≡ openIn (searchOf (kind .0)) (now (labels .entry)) free v ⌝ }
 {
     if !bitset::contains(free, v) {
@@ -41,7 +45,7 @@ fn is_open(kind: Kind, labels: &[u64; 64], free: u64, best: usize, v: usize) -> 
     if kind.0 != Kind::MNS.0 {
         return true;
     }
-    !crate::is_beaten(kind, labels, free, mine)
+    !crate::is_beaten(kind, labels, bitset::common(free, reached), mine)
 }
 
 // The entry of `list` at `i`; 0 behind its end.
@@ -51,20 +55,22 @@ fn entry(list: &[u8], i: usize) -> u8
     if i < list.len() { list[i] } else { 0 }
 }
 
-// The offered vertex that stands last in `tie_break`; its first entry where none is offered.
-pub fn choose(kind: Kind, labels: &[u64; 64], free: u64, tie_break: &[u8]) -> u8
+// The offered vertex that stands last in `tie_break`; its first entry where none is offered. `reached` holds every
+// vertex whose label is not empty.
+pub fn choose(kind: Kind, labels: &[u64; 64], free: u64, reached: u64, tie_break: &[u8]) -> u8
+    requires { ⌜ Covers reached (now labels) ⌝ }
     ensures { λ r. ⌜ r ≡ chosenIn (searchOf (kind .0)) (now (labels .entry)) free (now («tie_break» .entry)) ⌝ }
 {
     if free == 0 {
         return entry(tie_break, 0);
     }
-    let best = champion(kind, labels, free);
+    let best = champion(kind, labels, free, reached);
     let length = tie_break.len();
     let mut passed = 0;
     while passed < length {
         passed += 1;
         let v = entry(tie_break, length - passed);
-        if is_open(kind, labels, free, best, v as usize) {
+        if is_open(kind, labels, free, reached, best, v as usize) {
             return v;
         }
     }

@@ -2,9 +2,10 @@
 --   side, strict, excuses-is      an excuse stands on one side of what it excuses, and may have to be out of c's label
 --   reason-transitive
 --   outranks-irreflexive, outranks-transitive
---   lax-cotransitive, connected-cotransitive   the two arguments behind the last law, for searches that are not strict and for strict ones
---   settled-connected             of two labels that differ, one is ahead
---   outranks-cotransitive         but in MNS, a third label is behind the one ahead or ahead of the one behind
+--   Cotransitive bar              of two labels with one ahead, a third is behind the first or ahead of the second
+--   lax-cotransitive, connected-cotransitive   so it is in a search that is not strict, and where of two labels that differ one is ahead
+--   settled-connected             as in LexBFS and LexDFS
+--   reason-cotransitive, outranks-cotransitive   so it is in every search but MNS
 -- Assumes nothing.
 use mathlib.Core.Path.{_≡_, refl, sym, subst}
 use mathlib.Core.Bool.{Bool, true, false, not, _&&_, _||_}
@@ -130,7 +131,6 @@ module _ (s : Search) where
 
 -- ---- a weak order
 
--- of a search with reasons of this kind: a third label is behind the one ahead or ahead of the one behind
 abbrev Cotransitive : (ℕ → ℕ → Bool → Bool) → Type 0
 Cotransitive bar = (k : ℕ) (c b a : ℕ → Bool) → Reason bar k c b → Reason bar k c a ⊎ Reason bar k a b
 

@@ -51,7 +51,7 @@ returns-2 c =
       passes-counted (a .kind .0) rows w (accepted told) (r .result .count) (r .ensures .0),
       λ t.
           let whole = eqb→eq (r .result .count) (length w) t in (
-            r .ensures .1 .1 ∙ ap (λ (j : ℕ). labelsAfter rows w j) whole,
+            r .ensures .1 .1 .1 ∙ ap (λ (j : ℕ). labelsAfter rows w j) whole,
             r .ensures .1 .0 ∙ ap (λ (j : ℕ). freeAfter (length rows) w j) whole,
           ),
     )

@@ -6,7 +6,8 @@ use native.Mathlib.Omega.{arith}
 use lib.ListN.{length}
 use borrow.Author.Needs.{needs}
 use Rattle.searches.specs.Kind.{searchOf}
-use Rattle.labels.specs.Words.{spreadTo}
+use Rattle.labels.specs.Words.{spreadTo, Covers}
+use Rattle.labels.proofs.Reached.{covers-spread}
 use Rattle.engine.proofs.Tail.{Filling, filling-start, filling-next, filling-end}
 use Rattle.engine.proofs.fill.fill.Statement.{statement}
 use Rattle.engine.proofs.fill.fill.Tie as tie
@@ -18,25 +19,28 @@ use Rattle.engine.proofs.fill.row_of.Reads as row-of-reads
 use Rattle.labels.proofs.spread.Reads as spread-reads
 
 abbrev Inv-loop : tie.InvT-loop
-Inv-loop kind rows tie-break tail₀ k labels₀ free unplaced₀ count i₀ tail labels unplaced i =
-    Filling (searchOf (kind .0)) rows tie-break k count labels₀ free tail₀ tail labels unplaced i
+Inv-loop kind rows tie-break tail₀ k labels₀ free reached unplaced₀ met₀ count i₀ tail labels unplaced met i =
+    Filling (searchOf (kind .0)) rows tie-break k count labels₀ free tail₀ tail labels unplaced i × Covers met labels
 
 abbrev μ-loop : tie.MeasureT-loop
-μ-loop kind rows tie-break tail₀ k labels₀ free unplaced₀ count i₀ tail labels unplaced i = count - i
+μ-loop kind rows tie-break tail₀ k labels₀ free reached unplaced₀ met₀ count i₀ tail labels unplaced met i = count - i
 
 sub-count : tie.Need-sub-count Inv-loop μ-loop
 sub-count c = omega arith
 
 loop-holds : tie.Need-loop-holds Inv-loop μ-loop
 loop-holds c =
-    let a = c .before .before .before .args in
-    filling-start (searchOf (a .kind .0)) (a .rows .now) (a .tie-break .now) (a .k) (length (a .rows .now) - a .k) (a .labels .now) (a .free) (a .tail .now)
+    let s = c .before .before .before in
+    let a = s .args in (
+      filling-start (searchOf (a .kind .0)) (a .rows .now) (a .tie-break .now) (a .k) (length (a .rows .now) - a .k) (a .labels .now) (a .free) (a .tail .now),
+      s .pre .covers,
+    )
 
 choose-requires : tie.Need-choose-requires Inv-loop μ-loop
-choose-requires c κs = tt
+choose-requires c κs = c .before .before .loop .inv .1
 
 slice-write-tail : tie.Need-slice-write-tail Inv-loop μ-loop
-slice-write-tail c = omega (arith, c .before .before .before .loop .inv .long)
+slice-write-tail c = omega (arith, c .before .before .before .loop .inv .0 .long)
 
 cast-row-of : tie.Need-cast-row-of Inv-loop μ-loop
 cast-row-of c = search needs
@@ -56,6 +60,9 @@ cast-remove c = search needs
 remove-requires : tie.Need-remove-requires Inv-loop μ-loop
 remove-requires c κs = tt
 
+union-requires : tie.Need-union-requires Inv-loop μ-loop
+union-requires c κs = tt
+
 add-i : tie.Need-add-i Inv-loop μ-loop
 add-i c = search needs
 
@@ -64,14 +71,18 @@ loop-less c = search needs
 
 loop-again : tie.Need-loop-again Inv-loop μ-loop
 loop-again c =
-    let l = c .before .before .before .before .before .before .before in
+    let chosen = c .before .before .before .before .before in
+    let l = chosen .before .before .before in
     let a = l .before .before .before .before .args in
-    let v = c .before .before .before .before .choose .result in
-    filling-next (searchOf (a .kind .0)) (a .rows .now) (a .tie-break .now) (a .k) (length (a .rows .now) - a .k) (a .labels .now) (a .free) (a .tail .now) v
-    (c .before .spread .last .0) (c .remove .result) (l .loop .inv) (omega arith) (omega arith) (c .before .before .before .before .choose .ensures)
-    (c .before .spread .ensures
-    ∙ ap (λ (row : ℕ). spreadTo row (a .k + l .loop .i) (length (a .rows .now)) (l .loop .labels)) (c .before .before .before .row-of .ensures))
-    (c .remove .ensures)
+    let n = length (a .rows .now) in
+    let p = a .k + l .loop .i in
+    let row-v = c .before .before .before .before .row-of .ensures in
+    let labels = c .before .before .spread .ensures ∙ ap (λ (row : ℕ). spreadTo row p n (l .loop .labels)) row-v in (
+      filling-next (searchOf (a .kind .0)) (a .rows .now) (a .tie-break .now) (a .k) (n - a .k) (a .labels .now) (a .free) (a .tail .now) (chosen .choose .result)
+          (c .before .before .spread .last .0) (c .before .remove .result) (l .loop .inv .0) (omega arith) (omega arith) (chosen .choose .ensures) labels
+          (c .before .remove .ensures),
+      covers-spread (l .loop .labels) (l .loop .met) (c .before .before .before .before .row-of .result) p n (l .loop .inv .1) (c .before .before .spread .ensures) (c .union .ensures),
+    )
 
 same-length : tie.Need-same-length Inv-loop μ-loop
 same-length c = search needs
@@ -81,7 +92,7 @@ returns c =
     let l = c .before in
     let a = l .before .before .before .before .args in
     filling-end (searchOf (a .kind .0)) (a .rows .now) (a .tie-break .now) (a .k) (length (a .rows .now) - a .k) (a .labels .now) (a .free) (a .tail .now)
-    (l .loop .inv) (omega arith)
+    (l .loop .inv .0) (omega arith)
 
 pub fill-spec : {M : Type 1} → statement M
 fill-spec =
@@ -99,6 +110,7 @@ fill-spec =
     spread-requires
     cast-remove
     remove-requires
+    union-requires
     add-i
     loop-less
     loop-again

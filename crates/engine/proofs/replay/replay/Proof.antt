@@ -4,7 +4,7 @@ use Prim.Native.Nat.{ℕ, _<_, _≤_, _-_}
 use mathlib.Core.Path.{_≡_, sym, ap, _∙_}
 use lib.ListN.{length}
 use Rattle.bitset.proofs.Tests.{said-true, said-false}
-use Rattle.engine.specs.Steps.{labelsAfter, freeAfter, stopsAt}
+use Rattle.engine.specs.Steps.{labelsAfter, freeAfter, reachedAfter, stopsAt}
 use native.Mathlib.Omega.{arith}
 use borrow.Author.Needs.{needs}
 use Rattle.searches.specs.Kind.{searchOf}
@@ -20,10 +20,10 @@ use Rattle.labels.proofs.is_beaten.Reads as is-beaten-reads
 use Rattle.labels.proofs.spread.Reads as spread-reads
 
 abbrev Inv-loop : tie.InvT-loop
-Inv-loop kind rows ordering k labels₀ free₀ j₀ labels free j = Replaying (searchOf (kind .0)) rows ordering k labels free j
+Inv-loop kind rows ordering k labels₀ free₀ reached₀ j₀ labels free reached j = Replaying (searchOf (kind .0)) rows ordering k labels free reached j
 
 abbrev μ-loop : tie.MeasureT-loop
-μ-loop kind rows ordering k labels₀ free₀ j₀ labels free j = k - j
+μ-loop kind rows ordering k labels₀ free₀ reached₀ j₀ labels free reached j = k - j
 
 full-below-requires : tie.Need-full-below-requires Inv-loop μ-loop
 full-below-requires c κs = search needs
@@ -53,33 +53,39 @@ mul-mine c = omega (arith, inside (c .before))
 element-copy-out-mine : tie.Need-element-copy-out-mine Inv-loop μ-loop
 element-copy-out-mine c = omega (arith, inside (c .before))
 
+common-requires : tie.Need-common-requires Inv-loop μ-loop
+common-requires c κs = search needs
+
 is-beaten-requires : tie.Need-is-beaten-requires Inv-loop μ-loop
 is-beaten-requires c κs = search needs
 
 returns : tie.Need-returns Inv-loop μ-loop
 returns c =
-    let v = c .before .before .before .before .before in
+    let v = c .before .before .before .before .before .before in
     let l = v .before .before in
     let s = l .before .before .before .before in
     let k = searchOf (s .args .kind .0) in
     let w = s .args .ordering .now in
     let r = s .args .rows .now in (
       replay-stop k r w (s .args .k) (l .loop .inv) (v .before .loop-test .taken)
-          (said-true (stopsAt k r w (l .loop .j)) (c .before .is-beaten .ensures ∙ asked k r w (s .args .k) (l .loop .inv) (v .vertex-at .ensures)) (c .if1 .taken)),
-      (l .loop .inv .unplaced, l .loop .inv .labelled),
+          (said-true (stopsAt k r w (l .loop .j)) (c .before .is-beaten .ensures ∙ asked k r w (s .args .k) (l .loop .inv) (v .vertex-at .ensures) (c .before .before .common .ensures)) (c .if1 .taken)),
+      (l .loop .inv .unplaced, (l .loop .inv .met, l .loop .inv .labelled)),
     )
 
-mul-spread : tie.Need-mul-spread Inv-loop μ-loop
-mul-spread c = omega (arith, inside (c .before .before .before .before .before .before))
+mul-row : tie.Need-mul-row Inv-loop μ-loop
+mul-row c = omega (arith, inside (c .before .before .before .before .before .before))
 
-shared-slice-read-spread : tie.Need-shared-slice-read-spread Inv-loop μ-loop
-shared-slice-read-spread c = omega (arith, inside (c .before .before .before .before .before .before .before))
+shared-slice-read-row : tie.Need-shared-slice-read-row Inv-loop μ-loop
+shared-slice-read-row c = omega (arith, inside (c .before .before .before .before .before .before .before))
 
 spread-requires : tie.Need-spread-requires Inv-loop μ-loop
 spread-requires c κs = search needs
 
 remove-requires : tie.Need-remove-requires Inv-loop μ-loop
 remove-requires c κs = search needs
+
+union-requires : tie.Need-union-requires Inv-loop μ-loop
+union-requires c κs = search needs
 
 add-j : tie.Need-add-j Inv-loop μ-loop
 add-j c = search needs
@@ -89,17 +95,17 @@ loop-less c = search needs
 
 loop-again : tie.Need-loop-again Inv-loop μ-loop
 loop-again c =
-    let beaten = c .before .before .before .before .before in
-    let v = beaten .before .before .before .before in
+    let beaten = c .before .before .before .before .before .before in
+    let v = beaten .before .before .before .before .before in
     let l = v .before .before in
     let s = l .before .before .before .before in
     let k = searchOf (s .args .kind .0) in
     let w = s .args .ordering .now in
     let r = s .args .rows .now in
-    replay-next k r w (s .args .k) (c .before .spread .last .0) (c .remove .result) (l .loop .inv) (v .before .loop-test .taken) (v .vertex-at .ensures)
-    (said-false (stopsAt k r w (l .loop .j)) (beaten .is-beaten .ensures ∙ asked k r w (s .args .k) (l .loop .inv) (v .vertex-at .ensures))
-    (c .before .before .before .before .if1 .left))
-    (c .before .spread .ensures) (c .remove .ensures)
+    replay-next k r w (s .args .k) (c .before .before .spread .last .0) (c .before .remove .result) (c .union .result) (l .loop .inv) (v .before .loop-test .taken) (v .vertex-at .ensures)
+    (said-false (stopsAt k r w (l .loop .j)) (beaten .is-beaten .ensures ∙ asked k r w (s .args .k) (l .loop .inv) (v .vertex-at .ensures) (beaten .before .common .ensures))
+    (c .before .before .before .before .before .if1 .left))
+    (c .before .before .spread .ensures) (c .before .remove .ensures) (c .union .ensures)
 
 returns-2 : tie.Need-returns-2 Inv-loop μ-loop
 returns-2 c =
@@ -112,7 +118,7 @@ returns-2 c =
       sym e ∙ replay-end k r w (s .args .k) (l .loop .inv) (omega arith),
       (
         l .loop .inv .unplaced ∙ ap (λ (m : ℕ). freeAfter (length r) w m) e,
-        l .loop .inv .labelled ∙ ap (λ (m : ℕ). labelsAfter r w m) e,
+        (l .loop .inv .met ∙ ap (λ (m : ℕ). reachedAfter r w m) e, l .loop .inv .labelled ∙ ap (λ (m : ℕ). labelsAfter r w m) e),
       ),
     )
 
@@ -128,12 +134,14 @@ replay-spec =
     cast-b
     mul-mine
     element-copy-out-mine
+    common-requires
     is-beaten-requires
     returns
-    mul-spread
-    shared-slice-read-spread
+    mul-row
+    shared-slice-read-row
     spread-requires
     remove-requires
+    union-requires
     add-j
     loop-less
     loop-again

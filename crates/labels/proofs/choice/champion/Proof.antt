@@ -10,9 +10,10 @@ use borrow.Author.Needs.{needs}
 use Rattle.bitset.specs.Word.{member, removed}
 use Rattle.bitset.proofs.Tests.{said-true, said-false}
 use Rattle.bitset.proofs.Word.{member-below}
-use Rattle.bitset.proofs.Scan.{scan-next, first-member, removed-less, taken-out}
+use Rattle.bitset.proofs.Scan.{scan-start, scan-next, first-member, removed-less, taken-out}
 use Rattle.searches.specs.Kind.{searchOf}
 use Rattle.labels.specs.Words.{aheadIn}
+use Rattle.labels.proofs.Reached.{front-word, front-free}
 use Rattle.labels.proofs.Scan.{Scanned, scan-first, scan-lead, scan-champion}
 use Rattle.labels.proofs.choice.champion.Statement.{statement}
 use Rattle.labels.proofs.choice.champion.Tie as tie
@@ -23,39 +24,59 @@ use Rattle.bitset.proofs.smallest.Reads as smallest-reads
 use Rattle.labels.proofs.is_ahead.Reads as is-ahead-reads
 
 abbrev Inv-loop : tie.InvT-loop
-Inv-loop kind labels free best₀ rest₀ best rest = T (member free best) × Scanned (searchOf (kind .0)) labels free (getD labels best 0) rest
+Inv-loop kind labels free reached front best₀ rest₀ best rest = T (member free best) × Scanned (searchOf (kind .0)) labels front (getD labels best 0) rest
 
 abbrev μ-loop : tie.MeasureT-loop
-μ-loop kind labels free best₀ rest₀ best rest = rest
+μ-loop kind labels free reached front best₀ rest₀ best rest = rest
+
+common-requires : tie.Need-common-requires Inv-loop μ-loop
+common-requires c κs = search needs
 
 smallest-requires : tie.Need-smallest-requires Inv-loop μ-loop
 smallest-requires c κs = search needs
+
+-- nobody is reached
+returns : tie.Need-returns Inv-loop μ-loop
+returns c =
+    let m = c .before .before in
+    let s = m .before in
+    let a = s .args in
+    scan-champion (searchOf (a .kind .0)) (a .labels .now) (a .free) (a .reached) (c .smallest .result) (m .common .result) (s .pre .1) (m .common .ensures)
+    (subst (λ (u : ℕ). T (member (a .free) u)) (sym (c .smallest .ensures)) (first-member (a .free) (s .fits .free .fits) (s .pre .0) .1))
+    (scan-start 64 _ (front-word (a .free) (a .reached) (m .common .ensures) (s .fits .free .fits))) (c .before .if1 .taken)
+
+smallest-requires-2 : tie.Need-smallest-requires-2 Inv-loop μ-loop
+smallest-requires-2 c κs = search needs
 
 without-smallest-requires : tie.Need-without-smallest-requires Inv-loop μ-loop
 without-smallest-requires c κs = search needs
 
 -- the smallest number of what is left is in it
-found : (c : lts.After-smallest2 (smallest-reads.Asked, smallest-reads.Learnt, without-smallest-reads.Asked, without-smallest-reads.Learnt, is-ahead-reads.Asked, is-ahead-reads.Learnt) reads.Pre reads.Post Inv-loop μ-loop) → (c .smallest2 .result < 64) × T (member (c .before .before .loop .rest) (c .smallest2 .result))
+found : (c : tie.After-smallest3 Inv-loop μ-loop) → (c .smallest3 .result < 64) × T (member (c .before .before .loop .rest) (c .smallest3 .result))
 found c =
     let rest = c .before .before .loop .rest in
-    subst (λ (u : ℕ). (u < 64) × T (member rest u)) (sym (c .smallest2 .ensures)) (first-member rest (c .before .before .loop .inv .1 .word) (omega arith))
+    subst (λ (u : ℕ). (u < 64) × T (member rest u)) (sym (c .smallest3 .ensures)) (first-member rest (c .before .before .loop .inv .1 .word) (omega arith))
 
-leader : (c : lts.At-loop (smallest-reads.Asked, smallest-reads.Learnt, without-smallest-reads.Asked, without-smallest-reads.Learnt, is-ahead-reads.Asked, is-ahead-reads.Learnt) reads.Pre reads.Post Inv-loop μ-loop) → c .loop .best < 64
-leader c = let s = c .before .before .before in member-below 64 (s .fits .free .fits) (c .loop .best) (c .loop .inv .0)
+leader : (c : tie.At-loop Inv-loop μ-loop) → c .loop .best < 64
+leader c = let s = c .before .before .before .before .before in member-below 64 (s .fits .free .fits) (c .loop .best) (c .loop .inv .0)
 
 loop-holds : tie.Need-loop-holds Inv-loop μ-loop
 loop-holds c =
-    let s = c .before .before in
+    let m = c .before .before .before in
+    let s = m .before in
     let a = s .args in
     let k = searchOf (a .kind .0) in
-    let best = c .before .smallest .result in (
-      subst (λ (u : ℕ). T (member (a .free) u)) (sym (c .before .smallest .ensures)) (first-member (a .free) (s .fits .free .fits) (s .pre) .1),
-      subst (λ (r : ℕ). Scanned k (a .labels .now) (a .free) (getD (a .labels .now) best 0) r) (sym (taken-out (a .free) (c .without-smallest .ensures) (c .before .smallest .ensures)))
-          (scan-first k (a .labels .now) (a .free) best (s .fits .free .fits)),
+    let front = m .common .result in
+    let word = front-word (a .free) (a .reached) (m .common .ensures) (s .fits .free .fits) in
+    let best = c .before .smallest2 .result in (
+      front-free (a .free) (a .reached) (m .common .ensures) best
+          (subst (λ (u : ℕ). T (member front u)) (sym (c .before .smallest2 .ensures)) (first-member front word (omega arith) .1)),
+      subst (λ (r : ℕ). Scanned k (a .labels .now) front (getD (a .labels .now) best 0) r) (sym (taken-out front (c .without-smallest .ensures) (c .before .smallest2 .ensures)))
+          (scan-first k (a .labels .now) front best word),
     )
 
-smallest-requires-2 : tie.Need-smallest-requires-2 Inv-loop μ-loop
-smallest-requires-2 c κs = search needs
+smallest-requires-3 : tie.Need-smallest-requires-3 Inv-loop μ-loop
+smallest-requires-3 c κs = search needs
 
 mul-is-ahead : tie.Need-mul-is-ahead Inv-loop μ-loop
 mul-is-ahead c = omega (arith, found c .0)
@@ -79,35 +100,38 @@ loop-less : tie.Need-loop-less Inv-loop μ-loop
 loop-less c =
     let n = c .before .before .before .before .before in
     let l = n .before .before in
-    subst (λ (x : ℕ). x < l .loop .rest) (sym (taken-out (l .loop .rest) (c .without-smallest2 .ensures) (n .smallest2 .ensures))) (removed-less (l .loop .rest) (n .smallest2 .result) (l .loop .inv .1 .word) (found n .1))
+    subst (λ (x : ℕ). x < l .loop .rest) (sym (taken-out (l .loop .rest) (c .without-smallest2 .ensures) (n .smallest3 .ensures))) (removed-less (l .loop .rest) (n .smallest3 .result) (l .loop .inv .1 .word) (found n .1))
 
 loop-again : tie.Need-loop-again Inv-loop μ-loop
 loop-again c =
     let n = c .before .before .before .before .before in
     let l = n .before .before in
-    let a = l .before .before .before .args in
+    let m = l .before .before .before .before in
+    let a = m .before .args in
+    let front = m .common .result in
     let k = searchOf (a .kind .0) in
-    let u = n .smallest2 .result in
+    let u = n .smallest3 .result in
     let best = l .loop .best in
     let ahead = aheadIn k (getD (a .labels .now) u 0) (getD (a .labels .now) best 0) in
-    subst (λ (r : ℕ). T (member (a .free) (c .before .if1 .best)) × Scanned k (a .labels .now) (a .free) (getD (a .labels .now) (c .before .if1 .best) 0) r)
-    (sym (taken-out (l .loop .rest) (c .without-smallest2 .ensures) (n .smallest2 .ensures)))
+    subst (λ (r : ℕ). T (member (a .free) (c .before .if2 .best)) × Scanned k (a .labels .now) front (getD (a .labels .now) (c .before .if2 .best) 0) r)
+    (sym (taken-out (l .loop .rest) (c .without-smallest2 .ensures) (n .smallest3 .ensures)))
     (⊎-elim (λ t.
-    subst (λ (v : ℕ). T (member (a .free) v) × Scanned k (a .labels .now) (a .free) (getD (a .labels .now) v 0) (removed (l .loop .rest) u)) (sym (t .1)) (
-      l .loop .inv .1 .part u (found n .1),
-      scan-lead k (a .labels .now) (a .free) (l .loop .rest) best u (l .loop .inv .1) (said-true ahead (c .before .before .is-ahead .ensures) (t .0 .taken)),
+    subst (λ (v : ℕ). T (member (a .free) v) × Scanned k (a .labels .now) front (getD (a .labels .now) v 0) (removed (l .loop .rest) u)) (sym (t .1)) (
+      front-free (a .free) (a .reached) (m .common .ensures) u (l .loop .inv .1 .part u (found n .1)),
+      scan-lead k (a .labels .now) front (l .loop .rest) best u (l .loop .inv .1) (said-true ahead (c .before .before .is-ahead .ensures) (t .0 .taken)),
     )) (λ t.
-    subst (λ (v : ℕ). T (member (a .free) v) × Scanned k (a .labels .now) (a .free) (getD (a .labels .now) v 0) (removed (l .loop .rest) u)) (sym (t .1)) (
+    subst (λ (v : ℕ). T (member (a .free) v) × Scanned k (a .labels .now) front (getD (a .labels .now) v 0) (removed (l .loop .rest) u)) (sym (t .1)) (
       l .loop .inv .0,
       scan-next (l .loop .inv .1) u (λ _. said-false ahead (c .before .before .is-ahead .ensures) (t .0 .left)),
-    )) (c .before .if1 .came))
+    )) (c .before .if2 .came))
 
-returns : tie.Need-returns Inv-loop μ-loop
-returns c =
+returns-2 : tie.Need-returns-2 Inv-loop μ-loop
+returns-2 c =
     let l = c .before in
-    let a = l .before .before .before .args in
-    let k = searchOf (a .kind .0) in
-    scan-champion k (a .labels .now) (a .free) (l .loop .best) (l .loop .rest) (l .loop .inv .0) (l .loop .inv .1) (c .loop-test .left)
+    let m = l .before .before .before .before in
+    let a = m .before .args in
+    scan-champion (searchOf (a .kind .0)) (a .labels .now) (a .free) (a .reached) (l .loop .best) (l .loop .rest) (m .before .pre .1) (m .common .ensures)
+    (l .loop .inv .0) (l .loop .inv .1) (c .loop-test .left)
 
 pub champion-spec : {M : Type 1} → statement M
 champion-spec =
@@ -115,10 +139,13 @@ champion-spec =
     (tie.spec
     Inv-loop
     μ-loop
+    common-requires
     smallest-requires
+    returns
+    smallest-requires-2
     without-smallest-requires
     loop-holds
-    smallest-requires-2
+    smallest-requires-3
     mul-is-ahead
     element-copy-out-is-ahead
     mul-is-ahead-2
@@ -127,4 +154,4 @@ champion-spec =
     without-smallest-requires-2
     loop-less
     loop-again
-    returns)
+    returns-2)

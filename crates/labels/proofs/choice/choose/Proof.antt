@@ -18,10 +18,10 @@ use Rattle.labels.proofs.choice.entry.Reads as entry-reads
 use Rattle.labels.proofs.choice.is_open.Reads as is-open-reads
 
 abbrev Inv-loop : tie.InvT-loop
-Inv-loop kind labels free tie-break best end passed₀ passed = Closed (searchOf (kind .0)) labels free tie-break (end - passed)
+Inv-loop kind labels free reached tie-break best end passed₀ passed = Closed (searchOf (kind .0)) labels free tie-break (end - passed)
 
 abbrev μ-loop : tie.MeasureT-loop
-μ-loop kind labels free tie-break best end passed₀ passed = end - passed
+μ-loop kind labels free reached tie-break best end passed₀ passed = end - passed
 
 entry-requires : tie.Need-entry-requires Inv-loop μ-loop
 entry-requires c κs = search needs
@@ -33,7 +33,7 @@ returns c =
     c .entry .ensures ∙ chosen-none k (a .labels .now) (a .free) (a .tie-break .now) (none-open k (a .labels .now) (a .free) (a .tie-break .now) (c .before .if1 .taken))
 
 champion-requires : tie.Need-champion-requires Inv-loop μ-loop
-champion-requires c κs = search needs
+champion-requires c κs = (omega arith, c .before .before .pre)
 
 loop-holds : tie.Need-loop-holds Inv-loop μ-loop
 loop-holds c = λ x l h. absurd (omega arith)
@@ -51,7 +51,7 @@ cast-is-open : tie.Need-cast-is-open Inv-loop μ-loop
 cast-is-open c = search needs
 
 is-open-requires : tie.Need-is-open-requires Inv-loop μ-loop
-is-open-requires c κs = c .before .before .before .champion .ensures
+is-open-requires c κs = let found = c .before .before .before in (found .champion .ensures, found .before .before .before .pre)
 
 returns-2 : tie.Need-returns-2 Inv-loop μ-loop
 returns-2 c =

@@ -11,6 +11,7 @@ use Rattle.bitset.proofs.Word.{member-below}
 use Rattle.searches.specs.Kind.{searchOf}
 use Rattle.labels.specs.Words.{aheadIn, openIn}
 use Rattle.labels.proofs.Comparison.{searchOf-mns}
+use Rattle.labels.proofs.Reached.{beaten-reached}
 use Rattle.labels.proofs.Scan.{closed-outside, open-champion, closed-behind, open-level, open-unbeaten}
 use borrow.Author.Needs.{needs}
 use Rattle.labels.proofs.choice.is_open.Statement.{statement}
@@ -36,13 +37,13 @@ returns-2 c =
     let s = c .before .before .before in
     let a = s .args in
     let k = searchOf (a .kind .0) in
-    open-champion k (a .labels .now) (a .free) (a .best) (s .pre) ∙ ap (λ (v : ℕ). openIn k (a .labels .now) (a .free) v) (sym (c .if2 .taken))
+    open-champion k (a .labels .now) (a .free) (a .best) (s .pre .0) ∙ ap (λ (v : ℕ). openIn k (a .labels .now) (a .free) v) (sym (c .if2 .taken))
 
 -- v is free
-unplaced : (c : lts.Else2 (contains-reads.Asked, contains-reads.Learnt, is-ahead-reads.Asked, is-ahead-reads.Learnt, is-beaten-reads.Asked, is-beaten-reads.Learnt) reads.Pre reads.Post) → T (member (c .before .before .before .args .free) (c .before .before .before .args .v))
+unplaced : (c : tie.Else2) → T (member (c .before .before .before .args .free) (c .before .before .before .args .v))
 unplaced c = let a = c .before .before .before .args in said-true (member (a .free) (a .v)) (c .before .before .contains .ensures) (not-false (c .before .before .contains .result) (c .before .if1 .left))
 
-inside : (c : lts.Else2 (contains-reads.Asked, contains-reads.Learnt, is-ahead-reads.Asked, is-ahead-reads.Learnt, is-beaten-reads.Asked, is-beaten-reads.Learnt) reads.Pre reads.Post) → c .before .before .before .args .v < 64
+inside : (c : tie.Else2) → c .before .before .before .args .v < 64
 inside c = let s = c .before .before .before in member-below 64 (s .fits .free .fits) (s .args .v) (unplaced c)
 
 mul-mine : tie.Need-mul-mine
@@ -52,10 +53,10 @@ element-copy-out-mine : tie.Need-element-copy-out-mine
 element-copy-out-mine c = inside c
 
 mul-is-ahead : tie.Need-mul-is-ahead
-mul-is-ahead c = let s = c .before .before .before .before in omega (arith, member-below 64 (s .fits .free .fits) (s .args .best) (s .pre .inside))
+mul-is-ahead c = let s = c .before .before .before .before in omega (arith, member-below 64 (s .fits .free .fits) (s .args .best) (s .pre .0 .inside))
 
 element-copy-out-is-ahead : tie.Need-element-copy-out-is-ahead
-element-copy-out-is-ahead c = let s = c .before .before .before .before in member-below 64 (s .fits .free .fits) (s .args .best) (s .pre .inside)
+element-copy-out-is-ahead c = let s = c .before .before .before .before in member-below 64 (s .fits .free .fits) (s .args .best) (s .pre .0 .inside)
 
 is-ahead-requires : tie.Need-is-ahead-requires
 is-ahead-requires c κs = search needs
@@ -65,7 +66,7 @@ returns-3 c =
     let s = c .before .before .before .before .before .before .before in
     let a = s .args in
     let k = searchOf (a .kind .0) in
-    closed-behind k (a .labels .now) (a .free) (a .best) (a .v) (member-below 64 (s .fits .free .fits) (a .best) (s .pre .inside)) (s .pre)
+    closed-behind k (a .labels .now) (a .free) (a .best) (a .v) (member-below 64 (s .fits .free .fits) (a .best) (s .pre .0 .inside)) (s .pre .0)
     (said-true (aheadIn k (getD (a .labels .now) (a .best) 0) (getD (a .labels .now) (a .v) 0)) (c .before .is-ahead .ensures) (c .if3 .taken))
 
 returns-4 : tie.Need-returns-4
@@ -75,18 +76,23 @@ returns-4 c =
     let s = v .before .before .before in
     let a = s .args in
     let k = searchOf (a .kind .0) in
-    open-level k (a .labels .now) (a .free) (searchOf-mns (a .kind .0) (c .if4 .taken)) (a .best) (a .v) (s .pre) (unplaced v)
+    open-level k (a .labels .now) (a .free) (searchOf-mns (a .kind .0) (c .if4 .taken)) (a .best) (a .v) (s .pre .0) (unplaced v)
     (said-false (aheadIn k (getD (a .labels .now) (a .best) 0) (getD (a .labels .now) (a .v) 0)) (level .before .is-ahead .ensures) (level .if3 .left))
+
+common-requires : tie.Need-common-requires
+common-requires c κs = search needs
 
 is-beaten-requires : tie.Need-is-beaten-requires
 is-beaten-requires c κs = search needs
 
 returns-5 : tie.Need-returns-5
 returns-5 c =
-    let v = c .before .before .before .before .before .before .before .before in
-    let a = v .before .before .before .args in
+    let v = c .before .before .before .before .before .before .before .before .before in
+    let s = v .before .before .before in
+    let a = s .args in
     let k = searchOf (a .kind .0) in
-    open-unbeaten k (a .labels .now) (a .free) (a .v) (c .is-beaten .result) (unplaced v) (c .is-beaten .ensures)
+    open-unbeaten k (a .labels .now) (a .free) (a .v) (c .is-beaten .result) (unplaced v)
+    (c .is-beaten .ensures ∙ beaten-reached k (a .labels .now) (a .reached) (s .pre .1) (a .free) (getD (a .labels .now) (a .v) 0) (c .before .common .ensures))
 
 pub is-open-spec : {M : Type 1} → statement M
 is-open-spec =
@@ -102,5 +108,6 @@ is-open-spec =
     is-ahead-requires
     returns-3
     returns-4
+    common-requires
     is-beaten-requires
     returns-5)
