@@ -23,8 +23,8 @@ use Rattle.searches.proofs.Ordering.{Agree, agree-sym, agree-fewer, take-agree,
 use Rattle.searches.proofs.CarryOn.{chosen-offered}
 use Rattle.searches.proofs.Run.{Greedy, greedy-ordering, greedy-agree, greedy-grown}
 use Rattle.labels.specs.Words.{spreadTo, openIn, chosenIn}
-use Rattle.engine.specs.Steps.{labelsAfter, freeAfter, fillIn}
-use Rattle.engine.proofs.Representation.{open-offered}
+use Rattle.steps.specs.Steps.{labelsAfter, freeAfter, fillIn}
+use Rattle.steps.proofs.Representation.{open-offered}
 
 -- ---- only the first j vertices matter
 

@@ -27,8 +27,8 @@ use Rattle.searches.proofs.Ordering.{ordering-unplaced, ordering-fits}
 use Rattle.searches.proofs.Judge.{third-vertex, middle-met as middle-found}
 use Rattle.searches.proofs.Violations.{violates-out, violation-refutes, ViolatedAt, unoffered-violation}
 use Rattle.labels.specs.Words.{unexcusedIn, openIn}
-use Rattle.engine.specs.Steps.{labelsAfter, freeAfter, stopsAt, violatesIn, lastIn, firstIn}
-use Rattle.engine.proofs.Representation.{cut-same, cut-below, free-unplaced, label-members, open-offered}
+use Rattle.steps.specs.Steps.{labelsAfter, freeAfter, stopsAt, violatesIn, lastIn, firstIn}
+use Rattle.steps.proofs.Representation.{cut-same, cut-below, free-unplaced, label-members, open-offered}
 
 -- ---- the middle of a violation
 

@@ -1,12 +1,11 @@
 // What is unplaced after an ordering, with its labels: what is asked of an ordering that is to be grown.
-use crate::replay::replay;
 use searches::Kind;
 use searches::Outcome;
 ghost use mathlib.Core.Path.{_≡_};
 ghost use lib.Dec.{T};
 ghost use lib.ListN.{length};
 ghost use Rattle.searches.specs.Answer.{isPass, judgeAnswer};
-ghost use Rattle.engine.specs.Steps.{labelsAfter, freeAfter};
+ghost use Rattle.steps.specs.Steps.{labelsAfter, freeAfter};
 
 // Whether judge passes an ordering; where it does, the labels and the unplaced vertices after it.
 pub struct Moment {
@@ -34,7 +33,7 @@ pub fn after(kind: Kind, rows: &[u64], ordering: &[u8]) -> Moment
         };
     }
     let k = ordering.len();
-    let placed = replay(kind, rows, ordering, k, &mut labels);
+    let placed = steps::replay::replay(kind, rows, ordering, k, &mut labels);
     Moment {
         passes: placed.count == k,
         free: placed.free,

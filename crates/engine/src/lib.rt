@@ -1,9 +1,5 @@
 // Judge and carry-on on lent lists, for every kind, plan, list and number that can be handed in.
 pub mod after;
-mod fill;
-mod lookup;
-mod replay;
-mod violation;
 
 use searches::Judgement;
 use searches::Kind;
@@ -20,7 +16,7 @@ ghost use Rattle.searches.specs.Ordering.{arcs};
 ghost use Rattle.searches.specs.Violation.{judge as judgeOf};
 ghost use Rattle.searches.specs.CarryOn.{carryOn};
 ghost use Rattle.searches.specs.Answer.{isPass, judgeAnswer, carryOnAnswer, carryOnOutput, verdictOf, refusalOf};
-ghost use Rattle.engine.specs.Steps.{Judgeable, Extendable};
+ghost use Rattle.engine.specs.Lists.{Judgeable, Extendable};
 
 // Judges an ordering: it passes, or fails with its first violation, or is refused (1 to 6, 8, 9). Alters nothing.
 pub fn judge(kind: Kind, rows: &[u64], ordering: &[u8]) -> Judgement
@@ -43,11 +39,11 @@ fn verdict(kind: Kind, rows: &[u64], ordering: &[u8]) -> Judgement
 {
     let mut labels = [0u64; 64];
     let k = ordering.len();
-    let placed = replay::replay(kind, rows, ordering, k, &mut labels);
+    let placed = steps::replay::replay(kind, rows, ordering, k, &mut labels);
     let j = placed.count;
     let free = placed.free;
     if j < k {
-        return Judgement::Fails(violation::first_violation(
+        return Judgement::Fails(steps::violation::first_violation(
             kind,
             rows,
             ordering,
@@ -86,13 +82,13 @@ fn extend(kind: Kind, rows: &[u64], tie_break: &[u8], output: &mut [u8], k: usiz
         ⌝ }
 {
     let mut labels = [0u64; 64];
-    let placed = replay::replay(kind, rows, output, k, &mut labels);
+    let placed = steps::replay::replay(kind, rows, output, k, &mut labels);
     if placed.count < k {
         return Outcome::Refused(Refusal::StartFails);
     }
     let free = placed.free;
     let reached = placed.reached;
-    fill::fill(
+    steps::fill::fill(
         kind,
         rows,
         tie_break,

@@ -22,8 +22,8 @@ use Rattle.searches.specs.Answer.{isPass, judgeAnswer}
 use Rattle.searches.proofs.Ordering.{ordering-fits}
 use Rattle.searches.proofs.Answers.{passes-accepts, accepted-ordering, ordering-accepted, judge-accepted, isPass-in, isPass-out}
 use Rattle.labels.specs.Words.{openIn}
-use Rattle.engine.specs.Steps.{labelsAfter, freeAfter}
-use Rattle.engine.proofs.Representation.{open-offered, free-unplaced}
+use Rattle.steps.specs.Steps.{labelsAfter, freeAfter}
+use Rattle.steps.proofs.Representation.{open-offered, free-unplaced}
 use Rattle.traversal.specs.declared.Traversal.{Traversal}
 use Rattle.traversal.proofs.Unused.{unused-out, unused-in}
 use Rattle.traversal.specs.State.{plan, walk, usedFrom, wellFormed, WellFormed, offers}

@@ -5,7 +5,7 @@ ghost use mathlib.Core.Path.{_≡_};
 ghost use Prim.Native.Nat.{_≤_};
 ghost use lib.Dec.{T};
 ghost use lib.ListN.{length, take};
-ghost use Rattle.engine.specs.Steps.{labelsAfter, freeAfter};
+ghost use Rattle.steps.specs.Steps.{labelsAfter, freeAfter};
 ghost use Rattle.traversal.specs.State.{state, usedFrom, wellFormed};
 
 // Whether a row from `n` on is not 0.

@@ -8,10 +8,6 @@ use Rattle.engine.proofs.Calls.{carryOn-asked-refused, carryOn-asked-ac
 use borrow.Author.Needs.{needs}
 use Rattle.engine.proofs.carry_on.Statement.{statement}
 use Rattle.engine.proofs.carry_on.Tie as tie
-use Rattle.engine.proofs.carry_on.Reads as reads
-use Rattle.engine.proofs.carry_on.Lts as lts
-use Rattle.checks.proofs.list_refusal.Reads as list-refusal-reads
-use Rattle.engine.proofs.extend.Reads as extend-reads
 
 list-refusal-requires : tie.Need-list-refusal-requires
 list-refusal-requires c κs = tt

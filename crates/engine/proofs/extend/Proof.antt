@@ -14,15 +14,11 @@ use Rattle.searches.specs.Violation.{judge}
 use Rattle.searches.specs.CarryOn.{carryOn}
 use Rattle.searches.specs.Answer.{isPass, refusalOf, number}
 use Rattle.searches.proofs.Ordering.{ordering-fits}
-use Rattle.engine.proofs.Representation.{reached-covers}
+use Rattle.steps.proofs.Representation.{reached-covers}
 use Rattle.engine.proofs.Calls.{replayable, stopped-fails, ended-passes, filled-carried}
 use borrow.Author.Needs.{needs}
 use Rattle.engine.proofs.extend.Statement.{statement}
 use Rattle.engine.proofs.extend.Tie as tie
-use Rattle.engine.proofs.extend.Reads as reads
-use Rattle.engine.proofs.extend.Lts as lts
-use Rattle.engine.proofs.fill.fill.Reads as fill-reads
-use Rattle.engine.proofs.replay.replay.Reads as replay-reads
 
 replay-requires : tie.Need-replay-requires
 replay-requires c κs = let s = c .before .before .before .before .before in replayable (now (s .args .rows)) (now (s .args .output)) (s .args .k) (s .pre .start)

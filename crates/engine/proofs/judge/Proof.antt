@@ -7,14 +7,10 @@ use Rattle.searches.specs.Kind.{searchOf}
 use Rattle.searches.specs.Ordering.{arcs}
 use Rattle.searches.specs.Violation.{judge as judgeOf}
 use Rattle.searches.specs.Answer.{judgeAnswer, verdictOf, refusalOf}
-use Rattle.engine.specs.Steps.{Judgeable}
+use Rattle.engine.specs.Lists.{Judgeable}
 use Rattle.engine.proofs.Calls.{judge-asked-refused, judge-asked-accepted}
 use Rattle.engine.proofs.judge.Statement.{statement}
 use Rattle.engine.proofs.judge.Tie as tie
-use Rattle.engine.proofs.judge.Reads as reads
-use Rattle.engine.proofs.judge.Lts as lts
-use Rattle.checks.proofs.judge_refusal.Reads as judge-refusal-reads
-use Rattle.engine.proofs.verdict.Reads as verdict-reads
 
 judge-refusal-requires : tie.Need-judge-refusal-requires
 judge-refusal-requires c κs = tt

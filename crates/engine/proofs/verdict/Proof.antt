@@ -9,10 +9,6 @@ use Rattle.searches.specs.Answer.{verdictOf}
 use Rattle.engine.proofs.Calls.{replayable, fault-there, fault-judged, ended-passes}
 use Rattle.engine.proofs.verdict.Statement.{statement}
 use Rattle.engine.proofs.verdict.Tie as tie
-use Rattle.engine.proofs.verdict.Reads as reads
-use Rattle.engine.proofs.verdict.Lts as lts
-use Rattle.engine.proofs.replay.replay.Reads as replay-reads
-use Rattle.engine.proofs.violation.first_violation.Reads as first-violation-reads
 
 replay-requires : tie.Need-replay-requires
 replay-requires c κs = let s = c .before .before .before in replayable (now (s .args .rows)) (now (s .args .ordering)) (length (now (s .args .ordering))) (s .pre)

@@ -7,7 +7,7 @@ use denote.Ref.{now}
 use lib.Dec.{eqb→eq}
 use lib.ListN.{length}
 use Rattle.searches.specs.Answer.{judgeTests, firstRefusal, refusalOf}
-use Rattle.engine.specs.Steps.{labelsAfter, freeAfter}
+use Rattle.steps.specs.Steps.{labelsAfter, freeAfter}
 use Rattle.engine.proofs.Calls.{replayable, judge-asked-accepted, passes-refused, passes-counted}
 use Rattle.engine.proofs.after.after.Statement.{statement}
 use Rattle.engine.proofs.after.after.Tie as tie

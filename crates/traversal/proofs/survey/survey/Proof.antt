@@ -6,7 +6,7 @@ use denote.Ref.{now}
 use native.Mathlib.Omega.{arith}
 use borrow.Author.Needs.{needs}
 use Rattle.bitset.proofs.Tests.{is-false, said-true, said-false}
-use Rattle.engine.specs.Steps.{labelsAfter, freeAfter}
+use Rattle.steps.specs.Steps.{labelsAfter, freeAfter}
 use Rattle.traversal.specs.declared.Traversal.{Traversal}
 use Rattle.traversal.specs.State.{state, plan, walk, usedFrom, wellFormed}
 use Rattle.traversal.proofs.WellFormed.{parts, by-judge, plan-length, walk-length}

@@ -1,0 +1,4 @@
+pub mod Representation
+pub mod Replaying
+pub mod Searching
+pub mod Tail

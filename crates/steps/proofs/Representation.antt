@@ -1,0 +1,237 @@
+-- The words hold the labels and the unplaced vertices of searches/, and what is computed on them is what is defined there.
+--   suc-split                                the positions below one more
+--   cut-same, cut-below                      a set that ends at a bound;   outranks-cut   it is compared below it
+--   spread-length, spread-at                 a position put into the labels of the vertices of a row
+--   member-joined                            what is then in one label
+--   labels-length, label-members             labelsAfter: 64 words, which hold the labels
+--   free-word, free-members                  freeAfter: a word, which holds the unplaced vertices;   free-unplaced, free-vertex
+--   after-covers, reached-covers             reachedAfter: nobody else has a position in its label
+--   ahead-same, beaten-same, open-offered    who is ahead, who is beaten, who is offered
+-- Assumes nothing.
+use mathlib.Core.Path.{_≡_, refl, sym, ap, ap₂, _∙_, subst}
+use mathlib.Core.Bool.{Bool, true, false, cond, not, _&&_, _||_}
+use mathlib.Core.Logic.{_⊎_, inl, inr}
+use mathlib.Core.List.{List}
+use Prim.Native.Nat.{ℕ, zero, suc, _^_, _≤_, _<_}
+use native.Mathlib.Omega.{arith}
+use lib.Dec.{T, ltb, eqb, ltb→lt, lt→ltb, eqb→eq, eqb-refl, leb·suc-zero}
+use lib.ListN.{length, getD, length-set, length-replicate, getD-replicate}
+use lib.Seq.{getD-set-same, getD-set-other}
+use Rattle.bitset.specs.Below.{anyBelow}
+use Rattle.bitset.specs.Word.{member, inserted}
+use Rattle.bitset.proofs.Tests.{and-same, and-in, and-out, and-true, or-inl, or-inr, or-out, same-test, is-true, below-suc}
+use Rattle.bitset.proofs.Below.{any-fewer}
+use Rattle.bitset.proofs.Word as word
+use Rattle.searches.specs.Kind.{Search}
+use Rattle.searches.specs.Ordering.{arcs, at, placed, IsOrdering}
+use Rattle.searches.specs.Label.{label, outranks}
+use Rattle.searches.specs.Run.{offered}
+use Rattle.searches.specs.Violation.{excuses}
+use Rattle.searches.proofs.Reason.{Reason, outranks→reason, reason→outranks}
+use Rattle.searches.proofs.Ordering.{ordering-fits}
+use Rattle.labels.specs.Words.{aheadIn, joinedIn, spreadTo, beatenIn, openIn, Covers}
+use Rattle.labels.proofs.Spreading.{spread-above}
+use Rattle.labels.proofs.Reached.{covers-spread}
+use Rattle.steps.specs.Steps.{labelsAfter, freeAfter, reachedAfter}
+
+-- ---- laws of tests
+
+-- the positions below j + 1 of a set are j, if it is one, and those below j
+pub suc-split : (j p : ℕ) (f : ℕ → Bool) → ((eqb j p && f j) || (ltb p j && f p)) ≡ (ltb p (suc j) && f p)
+suc-split j p f = same-test ((eqb j p && f j) || (ltb p j && f p)) (ltb p (suc j) && f p) (λ t. forth (or-out (eqb j p && f j) (ltb p j && f p) t)) back
+  where
+    forth : T (eqb j p && f j) ⊎ T (ltb p j && f p) → T (ltb p (suc j) && f p)
+    forth (inl t) =
+        let both = and-out (eqb j p) (f j) t in
+        let e = eqb→eq j p (both .0) in
+        and-in (ltb p (suc j)) (f p) (lt→ltb p (suc j) (omega arith)) (subst (λ (q : ℕ). T (f q)) e (both .1))
+    forth (inr t) =
+        let both = and-out (ltb p j) (f p) t in
+        and-in (ltb p (suc j)) (f p) (lt→ltb p (suc j) (omega (arith, ltb→lt p j (both .0)))) (both .1)
+
+    back : T (ltb p (suc j) && f p) → T ((eqb j p && f j) || (ltb p j && f p))
+    back t = let both = and-out (ltb p (suc j)) (f p) t in go (below-suc j p (ltb→lt p (suc j) (both .0))) (both .1)
+      where
+        go : (p < j) ⊎ (p ≡ j) → T (f p) → T ((eqb j p && f j) || (ltb p j && f p))
+        go (inl l) x = or-inr (eqb j p && f j) (ltb p j && f p) (and-in (ltb p j) (f p) (lt→ltb p j l) x)
+        go (inr e) x =
+            or-inl (eqb j p && f j) (ltb p j && f p)
+            (and-in (eqb j p) (f j) (subst (λ (q : ℕ). T (eqb j q)) (sym e) (eqb-refl j)) (subst (λ (q : ℕ). T (f q)) e x))
+
+-- ---- sets that end at a bound
+
+-- f is f′ below j and holds nowhere else
+module _ (j : ℕ) (f f′ : ℕ → Bool) (cut : (p : ℕ) → f p ≡ (ltb p j && f′ p)) where
+  pub cut-same : (p : ℕ) → p < j → f p ≡ f′ p
+  cut-same p l = cut p ∙ ap (λ (b : Bool). b && f′ p) (is-true (ltb p j) (lt→ltb p j l))
+
+  pub cut-below : (p : ℕ) → T (f p) → p < j
+  cut-below p t = ltb→lt p j (and-out (ltb p j) (f′ p) (subst (λ (b : Bool). T b) (cut p) t) .0)
+
+module _ (s : Search) (j m : ℕ) (c b c′ b′ : ℕ → Bool) (l : j ≤ m) (c-cut : (p : ℕ) → c p ≡ (ltb p j && c′ p)) (b-cut : (p : ℕ) → b p ≡ (ltb p j && b′ p)) where
+  pub outranks-cut : outranks s m c b ≡ outranks s j c′ b′
+  outranks-cut =
+      same-test (outranks s m c b) (outranks s j c′ b′) (λ t. reason→outranks j c′ b′ s (forth (outranks→reason m c b s t)))
+      (λ t. reason→outranks m c b s (back (outranks→reason j c′ b′ s t)))
+    where
+      c-same : (p : ℕ) → p < j → c p ≡ c′ p
+      c-same = cut-same j c c′ c-cut
+
+      b-same : (p : ℕ) → p < j → b p ≡ b′ p
+      b-same = cut-same j b b′ b-cut
+
+      forth : Reason (excuses s) m c b → Reason (excuses s) j c′ b′
+      forth r =
+          let h = cut-below j c c′ c-cut (r .position) (r .ours) in
+          record {
+            position = r .position;
+            below = h;
+            ours = subst (λ (x : Bool). T x) (c-same (r .position) h) (r .ours);
+            theirs = λ t. r .theirs (subst (λ (x : Bool). T x) (sym (b-same (r .position) h)) t);
+            unexcused = λ d i t e.
+                r .unexcused d (omega arith) (subst (λ (x : Bool). T x) (sym (b-same d i)) t)
+                (subst (λ (inC : Bool). T (excuses s (r .position) d inC)) (sym (c-same d i)) e);
+          }
+
+      back : Reason (excuses s) j c′ b′ → Reason (excuses s) m c b
+      back r = record {
+        position = r .position;
+        below = omega (arith, r .below);
+        ours = subst (λ (x : Bool). T x) (sym (c-same (r .position) (r .below))) (r .ours);
+        theirs = λ t. r .theirs (subst (λ (x : Bool). T x) (b-same (r .position) (r .below)) t);
+        unexcused = λ d i t e.
+            let h = cut-below j b b′ b-cut d t in
+            r .unexcused d h (subst (λ (x : Bool). T x) (b-same d h) t) (subst (λ (inC : Bool). T (excuses s (r .position) d inC)) (c-same d h) e);
+      }
+
+-- ---- one position put into the labels
+
+module _ (row p : ℕ) (labels : List ℕ) where
+  pub spread-length : (i : ℕ) → length (spreadTo row p i labels) ≡ length labels
+  unfolding spreadTo
+  spread-length zero = refl
+  spread-length (suc i) = length-set (spreadTo row p i labels) i _ ∙ spread-length i
+
+  pub spread-at : (i v : ℕ) → i ≤ length labels → v < i → getD (spreadTo row p i labels) v 0 ≡ joinedIn row p v (getD labels v 0)
+  unfolding spreadTo
+  spread-at zero v h l = absurd (omega arith)
+  spread-at (suc i) v h l = go (spread-at i v (omega arith)) (below-suc i v l)
+    where
+      go : (v < i → getD (spreadTo row p i labels) v 0 ≡ joinedIn row p v (getD labels v 0)) → (v < i) ⊎ (v ≡ i)
+          → getD (spreadTo row p (suc i) labels) v 0 ≡ joinedIn row p v (getD labels v 0)
+      go rest (inl g) = getD-set-other (spreadTo row p i labels) i v _ 0 (omega arith) ∙ rest g
+      go rest (inr e) =
+          subst (λ (x : ℕ). getD (spreadTo row p (suc i) labels) x 0 ≡ joinedIn row p x (getD labels x 0)) (sym e)
+          (getD-set-same (spreadTo row p i labels) i _ 0 (omega (arith, spread-length i)) ∙ ap (joinedIn row p i) (spread-above row p labels i i (omega arith)))
+
+-- ---- the labels, and the unplaced vertices
+
+-- what is in a label after position q was put in where v is in the row
+pub member-joined : (row q v x : ℕ) → q < 64 → (p : ℕ) → member (joinedIn row q v x) p ≡ ((eqb q p && member row v) || member x p)
+unfolding joinedIn
+member-joined row q v x l p = go (member row v)
+  where
+    out : (b : Bool) → false ≡ (b && false)
+    out true = refl
+    out false = refl
+
+    go : (b : Bool) → member (cond b (inserted x q) x) p ≡ ((eqb q p && b) || member x p)
+    go true = word.member-inserted x l p ∙ ap (λ (b : Bool). b || member x p) (and-true (eqb q p))
+    go false = ap (λ (b : Bool). b || member x p) (out (eqb q p))
+
+module _ (rows w : List ℕ) where
+  pub labels-length : (j : ℕ) → length (labelsAfter rows w j) ≡ 64
+  unfolding labelsAfter
+  labels-length zero = length-replicate {A = ℕ} 64 0
+  labels-length (suc j) = spread-length (getD rows (at w j) 0) j (labelsAfter rows w j) (length rows) ∙ labels-length j
+
+  pub free-word : (j : ℕ) → freeAfter (length rows) w j < 2 ^ 64
+  unfolding freeAfter
+  free-word zero = word.fullBelow-word (length rows)
+  free-word (suc j) = word.removed-word (free-word j) (at w j)
+
+  module _ (small : length rows ≤ 64) where
+    pub free-members : (j v : ℕ) → member (freeAfter (length rows) w j) v ≡ (ltb v (length rows) && not (placed w j v))
+    unfolding freeAfter placed anyBelow
+    free-members zero v = word.member-fullBelow small v ∙ and-true (ltb v (length rows))
+    free-members (suc j) v =
+        word.member-removed (freeAfter (length rows) w j) (at w j) v ∙ ap (λ (b : Bool). not (eqb (at w j) v) && b) (free-members j v)
+        ∙ neither (eqb (at w j) v) (ltb v (length rows)) (placed w j v)
+      where
+        neither : (a b c : Bool) → (not a && (b && not c)) ≡ (b && not (a || c))
+        neither true true c = refl
+        neither true false c = refl
+        neither false b c = refl
+
+    pub free-unplaced : (j v : ℕ) → v < length rows → member (freeAfter (length rows) w j) v ≡ not (placed w j v)
+    free-unplaced j = cut-same (length rows) (member (freeAfter (length rows) w j)) (λ u. not (placed w j u)) (free-members j)
+
+    pub free-vertex : (j v : ℕ) → T (member (freeAfter (length rows) w j) v) → v < length rows
+    free-vertex j = cut-below (length rows) (member (freeAfter (length rows) w j)) (λ u. not (placed w j u)) (free-members j)
+
+module _ (rows w : List ℕ) (k : ℕ) (small : length rows ≤ 64) (o : IsOrdering (length rows) w k) where
+  pub label-members : (j : ℕ) → j ≤ k → (v : ℕ) → v < length rows → (p : ℕ)
+      → member (getD (labelsAfter rows w j) v 0) p ≡ (ltb p j && label (arcs rows) w v p)
+  unfolding labelsAfter label arcs
+  label-members zero h v l p =
+      ap (λ (x : ℕ). member x p) (getD-replicate 64 v 0 0 (omega arith)) ∙ word.member-zero p
+      ∙ ap (λ (b : Bool). b && label (arcs rows) w v p) (sym (leb·suc-zero p))
+  label-members (suc j) h v l p =
+      let row = getD rows (at w j) 0 in
+      let labels = labelsAfter rows w j in
+      ap (λ (x : ℕ). member x p) (spread-at row j labels (length rows) v (omega (arith, labels-length rows w j)) l)
+      ∙ member-joined row j v (getD labels v 0) (omega (arith, ordering-fits (length rows) o)) p
+      ∙ ap (λ (b : Bool). (eqb j p && member row v) || b) (label-members j (omega arith) v l p) ∙ suc-split j p (label (arcs rows) w v)
+
+pub after-covers : (rows w : List ℕ) (j : ℕ) → Covers (reachedAfter rows w j) (labelsAfter rows w j)
+unfolding reachedAfter labelsAfter
+after-covers rows w zero = λ v l out. getD-replicate 64 v 0 0 l
+after-covers rows w (suc j) =
+    covers-spread (labelsAfter rows w j) (reachedAfter rows w j) (getD rows (at w j) 0) j (length rows) (after-covers rows w j) refl refl
+
+-- the same of words that are those
+pub reached-covers : (rows w : List ℕ) (j : ℕ) {labels : List ℕ} {reached : ℕ} → labels ≡ labelsAfter rows w j → reached ≡ reachedAfter rows w j
+    → Covers reached labels
+reached-covers rows w j {labels} {reached} at-labels at-reached =
+    subst (λ (x : ℕ). Covers x labels) (sym at-reached)
+    (subst (λ (ls : List ℕ). Covers (reachedAfter rows w j) ls) (sym at-labels) (after-covers rows w j))
+
+-- ---- who is ahead, beaten, offered
+
+module _ (s : Search) (rows w : List ℕ) (k : ℕ) (small : length rows ≤ 64) (o : IsOrdering (length rows) w k) where
+  abbrev n : ℕ
+  n = length rows
+
+  abbrev arc : ℕ → ℕ → Bool
+  arc = arcs rows
+
+  -- the words after the first j vertices
+  abbrev labels : ℕ → List ℕ
+  labels = labelsAfter rows w
+
+  abbrev free : ℕ → ℕ
+  free = freeAfter (length rows) w
+
+  pub ahead-same : (j u v : ℕ) → j ≤ k → u < n → v < n
+      → aheadIn s (getD (labels j) u 0) (getD (labels j) v 0) ≡ outranks s j (label arc w u) (label arc w v)
+  unfolding aheadIn
+  ahead-same j u v h a b =
+      outranks-cut s j 64 (member (getD (labels j) u 0)) (member (getD (labels j) v 0)) (label arc w u) (label arc w v)
+      (omega (arith, ordering-fits n o)) (label-members rows w k small o j h u a) (label-members rows w k small o j h v b)
+
+  pub beaten-same : (j v : ℕ) → j ≤ k → v < n
+      → beatenIn s (labels j) (free j) (getD (labels j) v 0)
+      ≡ anyBelow n (λ u. not (placed w j u) && outranks s j (label arc w u) (label arc w v))
+  unfolding beatenIn
+  beaten-same j v h l =
+      any-fewer n 64 small (λ u. member (free j) u && aheadIn s (getD (labels j) u 0) (getD (labels j) v 0))
+      (λ u. not (placed w j u) && outranks s j (label arc w u) (label arc w v))
+      (λ u g. ap₂ (λ (a b : Bool). a && b) (free-unplaced rows w small j u g) (ahead-same j u v h g l))
+      (λ u t. free-vertex rows w small j u (and-out (member (free j) u) (aheadIn s (getD (labels j) u 0) (getD (labels j) v 0)) t .0))
+
+  pub open-offered : (j : ℕ) → j ≤ k → (v : ℕ) → openIn s (labels j) (free j) v ≡ offered s arc n w j v
+  unfolding openIn offered
+  open-offered j h v =
+      ap (λ (b : Bool). b && not (beatenIn s (labels j) (free j) (getD (labels j) v 0))) (free-members rows w small j v)
+      ∙ and-same (ltb v n && not (placed w j v)) _ _
+      (λ t. ap not (beaten-same j v h (ltb→lt v n (and-out (ltb v n) (not (placed w j v)) t .0))))

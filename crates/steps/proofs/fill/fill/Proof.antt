@@ -1,0 +1,112 @@
+-- `steps::fill::fill` meets its contract: what is filled so far and what the definition gives from there on make the whole.
+-- Assumes nothing.
+use Prim.Native.Nat.{ℕ, _+_, _-_}
+use mathlib.Core.Path.{ap, _∙_}
+use native.Mathlib.Omega.{arith}
+use lib.ListN.{length}
+use borrow.Author.Needs.{needs}
+use Rattle.searches.specs.Kind.{searchOf}
+use Rattle.labels.specs.Words.{spreadTo, Covers}
+use Rattle.labels.proofs.Reached.{covers-spread}
+use Rattle.steps.proofs.Tail.{Filling, filling-start, filling-next, filling-end}
+use Rattle.steps.proofs.fill.fill.Statement.{statement}
+use Rattle.steps.proofs.fill.fill.Tie as tie
+
+abbrev Inv-loop : tie.InvT-loop
+Inv-loop kind rows tie-break tail₀ k labels₀ free reached unplaced₀ met₀ count i₀ tail labels unplaced met i =
+    Filling (searchOf (kind .0)) rows tie-break k count labels₀ free tail₀ tail labels unplaced i × Covers met labels
+
+abbrev μ-loop : tie.MeasureT-loop
+μ-loop kind rows tie-break tail₀ k labels₀ free reached unplaced₀ met₀ count i₀ tail labels unplaced met i = count - i
+
+sub-count : tie.Need-sub-count Inv-loop μ-loop
+sub-count c = omega arith
+
+loop-holds : tie.Need-loop-holds Inv-loop μ-loop
+loop-holds c =
+    let s = c .before .before .before in
+    let a = s .args in (
+      filling-start (searchOf (a .kind .0)) (a .rows .now) (a .tie-break .now) (a .k) (length (a .rows .now) - a .k) (a .labels .now) (a .free) (a .tail .now),
+      s .pre .covers,
+    )
+
+choose-requires : tie.Need-choose-requires Inv-loop μ-loop
+choose-requires c κs = c .before .before .loop .inv .1
+
+slice-write-tail : tie.Need-slice-write-tail Inv-loop μ-loop
+slice-write-tail c = omega (arith, c .before .before .before .loop .inv .0 .long)
+
+cast-row-of : tie.Need-cast-row-of Inv-loop μ-loop
+cast-row-of c = search needs
+
+row-of-requires : tie.Need-row-of-requires Inv-loop μ-loop
+row-of-requires c κs = tt
+
+add-remove : tie.Need-add-remove Inv-loop μ-loop
+add-remove c = search needs
+
+spread-requires : tie.Need-spread-requires Inv-loop μ-loop
+spread-requires c κs = tt
+
+cast-remove : tie.Need-cast-remove Inv-loop μ-loop
+cast-remove c = search needs
+
+remove-requires : tie.Need-remove-requires Inv-loop μ-loop
+remove-requires c κs = tt
+
+union-requires : tie.Need-union-requires Inv-loop μ-loop
+union-requires c κs = tt
+
+add-i : tie.Need-add-i Inv-loop μ-loop
+add-i c = search needs
+
+loop-less : tie.Need-loop-less Inv-loop μ-loop
+loop-less c = search needs
+
+loop-again : tie.Need-loop-again Inv-loop μ-loop
+loop-again c =
+    let chosen = c .before .before .before .before .before in
+    let l = chosen .before .before .before in
+    let a = l .before .before .before .before .args in
+    let n = length (a .rows .now) in
+    let p = a .k + l .loop .i in
+    let row-v = c .before .before .before .before .row-of .ensures in
+    let labels = c .before .before .spread .ensures ∙ ap (λ (row : ℕ). spreadTo row p n (l .loop .labels)) row-v in (
+      filling-next (searchOf (a .kind .0)) (a .rows .now) (a .tie-break .now) (a .k) (n - a .k) (a .labels .now) (a .free) (a .tail .now) (chosen .choose .result)
+          (c .before .before .spread .last .0) (c .before .remove .result) (l .loop .inv .0) (omega arith) (omega arith) (chosen .choose .ensures) labels
+          (c .before .remove .ensures),
+      covers-spread (l .loop .labels) (l .loop .met) (c .before .before .before .before .row-of .result) p n (l .loop .inv .1) (c .before .before .spread .ensures) (c .union .ensures),
+    )
+
+same-length : tie.Need-same-length Inv-loop μ-loop
+same-length c = search needs
+
+returns : tie.Need-returns Inv-loop μ-loop
+returns c =
+    let l = c .before in
+    let a = l .before .before .before .before .args in
+    filling-end (searchOf (a .kind .0)) (a .rows .now) (a .tie-break .now) (a .k) (length (a .rows .now) - a .k) (a .labels .now) (a .free) (a .tail .now)
+    (l .loop .inv .0) (omega arith)
+
+pub fill-spec : {M : Type 1} → statement M
+fill-spec =
+    tie.close
+    (tie.spec
+    Inv-loop
+    μ-loop
+    sub-count
+    loop-holds
+    choose-requires
+    slice-write-tail
+    cast-row-of
+    row-of-requires
+    add-remove
+    spread-requires
+    cast-remove
+    remove-requires
+    union-requires
+    add-i
+    loop-less
+    loop-again
+    same-length
+    returns)

@@ -1,0 +1,85 @@
+-- An ordering placed step by step on labels that are kept as words.
+--   labelsAfter rows w j          the labels after the first j vertices of w
+--   freeAfter n w j               the vertices below n that are not among the first j of w
+--   reachedAfter rows w j         the vertices that the first j of w lead to
+--   stopsAt s rows w j            the vertex at position j of w is beaten when its turn comes
+--   violatesIn s rows w labels free j i c   the vertices at i and j and c are a violation, seen at j's turn
+--   lastIn, firstIn               candidate e for c, position i of a take part in one
+--   firstFault s rows w labels free j k   the first violation with the vertex at position j, as judge shows it
+--   fillIn s rows t m p labels free   the m vertices chosen from position p on
+--   Replayable rows w k labels    the first k entries of w are vertices of a graph of at most 64, and the labels are empty
+--   Searchable rows w k j         likewise, and j is one of the first k positions
+--   Fillable rows tail k labels reached   tail has room for the vertices from position k on, and nobody outside `reached` has a label
+use Prim.Native.Nat.{ℕ, zero, suc, _+_, _-_, _≤_, _<_}
+use mathlib.Core.Path.{_≡_}
+use mathlib.Core.Bool.{Bool, not, _&&_}
+use mathlib.Core.List.{List, [], _∷_}
+use lib.Dec.{eqb}
+use lib.ListN.{length, getD, replicate}
+use Rattle.bitset.specs.Below.{anyBelow, firstBelow}
+use Rattle.bitset.specs.Word.{member, removed, united, fullBelow}
+use Rattle.searches.specs.Kind.{Search}
+use Rattle.searches.specs.Ordering.{arcs, at}
+use Rattle.searches.specs.Violation.{third, Verdict, fails}
+use Rattle.labels.specs.Words.{unexcusedIn, spreadTo, beatenIn, chosenIn, Covers}
+
+unfoldable pub labelsAfter : List ℕ → List ℕ → ℕ → List ℕ
+labelsAfter rows w zero = replicate 64 0
+labelsAfter rows w (suc j) = spreadTo (getD rows (at w j) 0) j (length rows) (labelsAfter rows w j)
+
+unfoldable pub freeAfter : ℕ → List ℕ → ℕ → ℕ
+freeAfter n w zero = fullBelow n
+freeAfter n w (suc j) = removed (freeAfter n w j) (at w j)
+
+unfoldable pub reachedAfter : List ℕ → List ℕ → ℕ → ℕ
+reachedAfter rows w zero = 0
+reachedAfter rows w (suc j) = united (reachedAfter rows w j) (getD rows (at w j) 0)
+
+module _ (s : Search) where
+  unfoldable pub stopsAt : List ℕ → List ℕ → ℕ → Bool
+  stopsAt rows w j =
+      let labels = labelsAfter rows w j in
+      beatenIn s labels (freeAfter (length rows) w j) (getD labels (at w j) 0)
+
+  module _ (rows w labels : List ℕ) (free j : ℕ) where
+    unfoldable pub violatesIn : ℕ → ℕ → Bool
+    violatesIn i c =
+        arcs rows (at w i) c && not (arcs rows (at w i) (at w j)) && (member free c && not (eqb c (at w j)))
+        && unexcusedIn s i (getD labels c 0) (getD labels (at w j) 0)
+
+    unfoldable pub lastIn : ℕ → ℕ → ℕ → Bool
+    lastIn k i e = violatesIn i (third w k e)
+
+    unfoldable pub firstIn : ℕ → ℕ → Bool
+    firstIn k i = anyBelow (k + length rows) (lastIn k i)
+
+    unfoldable pub firstFault : ℕ → Verdict
+    firstFault k =
+        let i = firstBelow j (firstIn k) in
+        fails (at w i) (at w j) (third w k (firstBelow (k + length rows) (lastIn k i)))
+
+  unfoldable pub fillIn : List ℕ → List ℕ → ℕ → ℕ → List ℕ → ℕ → List ℕ
+  fillIn rows t zero p labels free = []
+  fillIn rows t (suc m) p labels free =
+      let v = chosenIn s labels free t in
+      v ∷ fillIn rows t m (suc p) (spreadTo (getD rows v 0) p (length rows) labels) (removed free v)
+
+pub record Replayable (rows w : List ℕ) (k : ℕ) (labels : List ℕ) : Type 0 where
+  pub long : k ≤ length w
+  pub fits : k ≤ length rows
+  pub small : length rows ≤ 64
+  pub vertices : (p : ℕ) → p < k → at w p < length rows
+  pub empty : labels ≡ replicate 64 0
+
+pub record Searchable (rows w : List ℕ) (k j : ℕ) : Type 0 where
+  pub long : k ≤ length w
+  pub inside : j < k
+  pub fits : k ≤ length rows
+  pub small : length rows ≤ 64
+  pub vertices : (p : ℕ) → p < k → at w p < length rows
+
+pub record Fillable (rows tail : List ℕ) (k : ℕ) (labels : List ℕ) (reached : ℕ) : Type 0 where
+  pub fits : k ≤ length rows
+  pub small : length rows ≤ 64
+  pub room : length rows - k ≤ length tail
+  pub covers : Covers reached labels

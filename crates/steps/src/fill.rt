@@ -1,0 +1,48 @@
+// The filling step of carry-on: the choice by the tie-break, again and again.
+use searches::Kind;
+use searches::Position;
+ghost use mathlib.Core.Path.{_≡_};
+ghost use mathlib.Core.List.{_++_};
+ghost use Prim.Native.Nat.{_-_};
+ghost use lib.ListN.{length, drop, getD};
+ghost use Rattle.searches.specs.Kind.{searchOf};
+ghost use Rattle.steps.specs.Steps.{fillIn, Fillable};
+
+// The row of vertex `v`; no arcs behind the last row.
+fn row_of(rows: &[u64], v: usize) -> u64
+    ensures { λ r. ⌜ r ≡ getD (now (rows .entry)) v 0 ⌝ }
+{
+    if v < rows.len() { rows[v] } else { 0 }
+}
+
+// Writes the vertices that carry on from position `k` into `tail`, whose first bytes are the positions from `k` on; `labels`, `free`
+// and `reached` are those after the first `k`.
+pub fn fill(
+    kind: Kind,
+    rows: &[u64],
+    tie_break: &[u8],
+    tail: &mut [u8],
+    k: usize,
+    labels: &mut [u64; 64],
+    free: u64,
+    reached: u64,
+)
+    requires { ⌜ Fillable (now rows) (now tail) k (now labels) reached ⌝ }
+    ensures { λ r. ⌜
+        now (tail .exit)
+        ≡ fillIn (searchOf (kind .0)) (now (rows .entry)) (now («tie_break» .entry)) (length (now (rows .entry)) - k) k (now (labels .entry)) free
+        ++ drop (length (now (rows .entry)) - k) (now (tail .entry))
+        ⌝ }
+{
+    let mut unplaced = free;
+    let mut met = reached;
+    let count = rows.len() - k;
+    for i in 0..count {
+        let v = labels::choice::choose(kind, labels, unplaced, met, tie_break);
+        tail[i] = v;
+        let row = row_of(rows, v as usize);
+        labels::spread(labels, row, Position(k + i), rows.len());
+        unplaced = bitset::remove(unplaced, v as usize);
+        met = bitset::union(met, row);
+    }
+}

@@ -1,0 +1,6 @@
+// An ordering placed step by step, on labels that are kept as words: placed again up to the first vertex that was not offered, the first
+// violation at that vertex, and the filling step of carry-on.
+pub mod fill;
+pub mod lookup;
+pub mod replay;
+pub mod violation;

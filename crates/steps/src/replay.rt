@@ -1,0 +1,50 @@
+// An ordering placed again, vertex by vertex, until one was not offered.
+use crate::lookup::vertex_at;
+use searches::Kind;
+use searches::Position;
+ghost use mathlib.Core.Path.{_≡_};
+ghost use lib.ListN.{length};
+ghost use Rattle.bitset.specs.Below.{firstBelow};
+ghost use Rattle.searches.specs.Kind.{searchOf};
+ghost use Rattle.steps.specs.Steps.{labelsAfter, freeAfter, reachedAfter, stopsAt, Replayable};
+
+// How many vertices a replay placed, which were then unplaced, and which the placed ones lead to.
+pub struct Placed {
+    pub count: usize,
+    pub free: u64,
+    pub reached: u64,
+}
+
+// Places the first `k` vertices of `ordering` up to the first that was not offered. `labels` comes in empty and goes out with the labels
+// of that moment.
+pub fn replay(kind: Kind, rows: &[u64], ordering: &[u8], k: usize, labels: &mut [u64; 64]) -> Placed
+    requires { ⌜ Replayable (now rows) (now ordering) k (now labels) ⌝ }
+    ensures count { λ r. ⌜ r .count ≡ firstBelow k (stopsAt (searchOf (kind .0)) (now (rows .entry)) (now (ordering .entry))) ⌝ }
+    ensures free { λ r. ⌜ r .free ≡ freeAfter (length (now (rows .entry))) (now (ordering .entry)) (r .count) ⌝ }
+    ensures reached { λ r. ⌜ r .reached ≡ reachedAfter (now (rows .entry)) (now (ordering .entry)) (r .count) ⌝ }
+    ensures labels { λ r. ⌜ now (labels .exit) ≡ labelsAfter (now (rows .entry)) (now (ordering .entry)) (r .count) ⌝ }
+{
+    let mut free = bitset::full_below(rows.len());
+    let mut reached = 0u64;
+    for j in 0..k {
+        let vertex = vertex_at(ordering, Position(j));
+        let b = vertex.0 as usize;
+        let mine = labels[b];
+        if labels::is_beaten(kind, labels, bitset::common(free, reached), mine) {
+            return Placed {
+                count: j,
+                free,
+                reached,
+            };
+        }
+        let row = rows[b];
+        labels::spread(labels, row, Position(j), rows.len());
+        free = bitset::remove(free, b);
+        reached = bitset::union(reached, row);
+    }
+    Placed {
+        count: k,
+        free,
+        reached,
+    }
+}
