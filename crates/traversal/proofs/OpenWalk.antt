@@ -13,16 +13,20 @@ use lib.Dec.{T}
 use lib.ListN.{length, take}
 use lib.Seq.{take-length}
 use Rattle.bitset.specs.Word.{member}
+use Rattle.bitset.proofs.Tests.{cond-yes}
 use Rattle.searches.specs.Kind.{searchOf}
-use Rattle.searches.specs.Ordering.{arcs, IsFullOrdering}
+use Rattle.searches.specs.Ordering.{arcs, placed, IsOrdering, IsFullOrdering}
 use Rattle.searches.specs.Violation.{passes}
 use Rattle.searches.specs.CarryOn.{grow, carryOn}
 use Rattle.searches.specs.Answer.{openTests, Accepts, Refuses, judgeAnswer, openAnswer, carryOnOutput}
+use Rattle.searches.proofs.Ordering.{all-placed}
+use Rattle.searches.proofs.Run.{offered-out}
 use Rattle.searches.proofs.Refusals.{refuses-first, first-refuses}
 use Rattle.searches.proofs.Parts.{first-bytes}
 use Rattle.traversal.specs.declared.Traversal.{Traversal}
-use Rattle.traversal.specs.State.{walk, wellFormed, WellFormed, nothingOpen, opened, offeredSet, placeTests, placeAnswer, grown, takeBackTests, takeBackAnswer, shrunk}
+use Rattle.traversal.specs.State.{plan, walk, wellFormed, WellFormed, offers, setBelow, nothingOpen, opened, offeredSet, placeTests, placeAnswer, grown, takeBackTests, takeBackAnswer, shrunk}
 use Rattle.traversal.specs.Moves.{Move, placing, takingBack, moved, after, remains, remaining, holding, lastOffered, following}
+use Rattle.traversal.proofs.SetBelow.{set-none}
 use Rattle.traversal.proofs.WellFormed.{well-formed-out, well-formed-in}
 use Rattle.traversal.proofs.Answered.{kept-handed}
 use Rattle.traversal.proofs.Holding.{Sound, distinct, fits, passing, holding-walk, holding-formed, opened-holding, grown-holding, shrunk-holding, place-accepted}
@@ -33,6 +37,17 @@ use Rattle.traversal.proofs.Following.{member-offered, offered-passes, 
 -- 13 is given exactly where 01 says that an open walk is not well formed
 pub well-formed-exactly : (t : Traversal) → length (t .rows) ≡ 64 → length (t .ordering) ≡ 64 → T (wellFormed t) ↔ WellFormed t
 well-formed-exactly t rows-full ordering-full = (well-formed-out t rows-full ordering-full, well-formed-in t rows-full ordering-full)
+
+-- when all is placed the offered set is empty
+pub full-offers-none : (t : Traversal) → length (t .rows) ≡ 64 → length (t .ordering) ≡ 64 → T (wellFormed t) → t .k ≡ t .n → offeredSet t ≡ 0
+unfolding offeredSet offers
+full-offers-none t rows-full ordering-full sound all =
+    let x = well-formed-out t rows-full ordering-full sound in
+    let whole : IsOrdering (t .n) (walk t) (t .n) = subst (λ (m : ℕ). IsOrdering (t .n) (walk t) m) all (x .distinct) in
+    cond-yes (wellFormed t) (setBelow (t .n) (offers t)) 0 sound
+    ∙ set-none (t .n) (offers t) (λ v l o.
+    offered-out (searchOf (t .kind .0)) (arcs (plan t)) (t .n) (walk t) (t .k) v o .unplaced
+    (subst (λ (m : ℕ). T (placed (walk t) m v)) (sym all) (all-placed (t .n) whole v l)))
 
 -- each refusal in its stated case and no other, in 01's order
 pub place-refuses : (t : Traversal) (v r : ℕ) → (placeAnswer t v ≡ some r) ↔ Refuses r (placeTests t v)

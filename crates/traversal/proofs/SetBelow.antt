@@ -1,15 +1,16 @@
 -- The set of the numbers below a bound at which a test holds.
 --   set-more, set-same           one number more, at which it holds, or does not
+--   set-none                     it is empty where the test holds nowhere
 --   member-setBelow              what is in it
 -- Assumes nothing.
-use Prim.Native.Nat.{ℕ, zero, suc, _+_, _≤_}
+use Prim.Native.Nat.{ℕ, zero, suc, _+_, _≤_, _<_}
 use mathlib.Core.Path.{_≡_, refl, sym, ap, ap₂, _∙_}
 use mathlib.Core.Bool.{Bool, true, false, cond, _&&_, _||_}
 use native.Mathlib.Numerals.{add-one}
 use native.Mathlib.Omega.{arith}
-use lib.Dec.{ltb, eqb, leb·suc-zero}
+use lib.Dec.{T, ltb, eqb, leb·suc-zero}
 use Rattle.bitset.specs.Word.{member, inserted}
-use Rattle.bitset.proofs.Tests.{and-true}
+use Rattle.bitset.proofs.Tests.{and-true, cond-no}
 use Rattle.bitset.proofs.Word.{member-zero, member-inserted}
 use Rattle.steps.proofs.Representation.{suc-split}
 use Rattle.traversal.specs.State.{setBelow}
@@ -24,6 +25,12 @@ pub set-same : (f : ℕ → Bool) {v set : ℕ} → set ≡ setBelow v f → f v
 unfolding setBelow
 set-same f {v} {set} e fails =
     e ∙ sym (ap (λ (b : Bool). cond b (inserted (setBelow v f) v) (setBelow v f)) fails) ∙ ap (λ (m : ℕ). setBelow m f) (sym (add-one v))
+
+pub set-none : (n : ℕ) (f : ℕ → Bool) → ((v : ℕ) → v < n → T (f v) → ⊥) → setBelow n f ≡ 0
+unfolding setBelow
+set-none zero f none = refl
+set-none (suc n) f none =
+    cond-no (f n) (inserted (setBelow n f) n) (setBelow n f) (none n (omega arith)) ∙ set-none n f (λ v l. none v (omega arith))
 
 pub member-setBelow : (n : ℕ) → n ≤ 64 → (f : ℕ → Bool) (v : ℕ) → member (setBelow n f) v ≡ (ltb v n && f v)
 unfolding setBelow
