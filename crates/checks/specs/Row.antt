@@ -3,8 +3,10 @@
 --   loopAt rows u          u is linked to itself
 --   unanswered rows u v    u leads to v, and v does not lead to u
 --   oneWayAt rows u        u leads to a vertex that does not lead to u
+--   refusedAt r rows u     of these the one that refusal r, 3, 4 or 5, is given for
 use Prim.Native.Nat.{ℕ}
-use mathlib.Core.Bool.{Bool, not, _&&_}
+use mathlib.Core.Bool.{Bool, cond, not, _&&_}
+use lib.Dec.{eqb}
 use mathlib.Core.List.{List}
 use lib.ListN.{length, getD}
 use Rattle.bitset.specs.Below.{anyBelow}
@@ -22,3 +24,6 @@ unanswered rows u v = arcs rows u v && not (arcs rows v u)
 
 unfoldable pub oneWayAt : List ℕ → ℕ → Bool
 oneWayAt rows u = anyBelow (length rows) (unanswered rows u)
+
+unfoldable pub refusedAt : ℕ → List ℕ → ℕ → Bool
+refusedAt r rows u = cond (eqb r 3) (outsideAt rows u) (cond (eqb r 4) (loopAt rows u) (oneWayAt rows u))

@@ -7,36 +7,10 @@ ghost use Rattle.bitset.specs.Below.{firstBelow};
 ghost use Rattle.searches.specs.Ordering.{at};
 ghost use Rattle.searches.specs.Answer.{vertexOutside, openTests, judgeTests, listTests, firstRefusal, refusalOf};
 ghost use Rattle.searches.specs.Answer as answer;
-ghost use Rattle.checks.specs.Row.{outsideAt, loopAt, oneWayAt};
+ghost use Rattle.checks.specs.Row.{oneWayAt, refusedAt};
 use searches::Kind;
 use searches::Outcome;
 use searches::Refusal;
-
-// The first row with a bit at or above the number of rows; that number where there is none.
-fn first_outside(rows: &[u64]) -> usize
-    ensures { λ r. ⌜ r ≡ firstBelow (length (now (rows .entry))) (outsideAt (now (rows .entry))) ⌝ }
-{
-    let n = rows.len();
-    for u in 0..n {
-        if bitset::any_from(rows[u], n) {
-            return u;
-        }
-    }
-    n
-}
-
-// The first vertex that is linked to itself; the number of rows where there is none.
-fn first_loop(rows: &[u64]) -> usize
-    ensures { λ r. ⌜ r ≡ firstBelow (length (now (rows .entry))) (loopAt (now (rows .entry))) ⌝ }
-{
-    let n = rows.len();
-    for u in 0..n {
-        if bitset::contains(rows[u], u) {
-            return u;
-        }
-    }
-    n
-}
 
 // Whether `u` has an arc to a vertex that has none back. Only the arcs of `u` are looked at.
 fn one_way_from(rows: &[u64], u: usize) -> bool
@@ -55,13 +29,27 @@ fn one_way_from(rows: &[u64], u: usize) -> bool
     false
 }
 
-// The first vertex with an arc that has none back; the number of rows where there is none.
-fn first_one_way(rows: &[u64]) -> usize
-    ensures { λ r. ⌜ r ≡ firstBelow (length (now (rows .entry))) (oneWayAt (now (rows .entry))) ⌝ }
+// Whether refusal `number`, 3, 4 or 5, applies to the row of `u`.
+fn row_refused(rows: &[u64], u: usize, number: u8) -> bool
+    requires { ⌜ u < length (now rows) ⌝ }
+    ensures { λ r. ⌜ r ≡ refusedAt number (now (rows .entry)) u ⌝ }
+{
+    if number == 3 {
+        return bitset::any_from(rows[u], rows.len());
+    }
+    if number == 4 {
+        return bitset::contains(rows[u], u);
+    }
+    one_way_from(rows, u)
+}
+
+// The first row to which refusal `number`, 3, 4 or 5, applies; the number of rows where there is none.
+fn first_refused(rows: &[u64], number: u8) -> usize
+    ensures { λ r. ⌜ r ≡ firstBelow (length (now (rows .entry))) (refusedAt number (now (rows .entry))) ⌝ }
 {
     let n = rows.len();
     for u in 0..n {
-        if one_way_from(rows, u) {
+        if row_refused(rows, u, number) {
             return u;
         }
     }
@@ -109,15 +97,15 @@ pub fn open_refusal(kind: Kind, rows: &[u64]) -> Outcome
     if 64 < n {
         return Outcome::Refused(Refusal::TooManyVertices);
     }
-    let outside = first_outside(rows);
-    let looped = first_loop(rows);
+    let outside = first_refused(rows, 3);
+    let looped = first_refused(rows, 4);
     if outside < n {
         return Outcome::Refused(Refusal::ArcOutOfRange);
     }
     if looped < n {
         return Outcome::Refused(Refusal::SelfLoop);
     }
-    if first_one_way(rows) < n {
+    if first_refused(rows, 5) < n {
         return Outcome::Refused(Refusal::OneWayArc);
     }
     Outcome::Done

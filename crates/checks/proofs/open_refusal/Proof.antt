@@ -11,7 +11,7 @@ use Rattle.bitset.proofs.Tests.{is-true, is-false}
 use Rattle.bitset.proofs.Passed.{some-found, none-found}
 use Rattle.searches.specs.Ordering.{arcs}
 use Rattle.searches.specs.Answer.{bitOutside, selfLoop, oneWay, openTests, number, refusalOf}
-use Rattle.checks.specs.Row.{outsideAt, loopAt, unanswered, oneWayAt}
+use Rattle.checks.specs.Row.{outsideAt, loopAt, unanswered, oneWayAt, refusedAt}
 use Rattle.checks.proofs.Tried.{Tried, tried-none, tried-one, refused-here, accepted-here}
 use Rattle.checks.proofs.open_refusal.Statement.{statement}
 use Rattle.checks.proofs.open_refusal.Tie as tie
@@ -32,18 +32,18 @@ unfolding openTests
 past-2 c = tried-one (past-1 (c .before)) (le-ltb _ _ (c .if2 .left))
 
 past-3 : (c : tie.Else3) → Past 3 (c .before .before .before .before .before)
-unfolding openTests bitOutside outsideAt fromUp arcs
+unfolding openTests bitOutside refusedAt outsideAt fromUp arcs
 past-3 c =
     let looked = c .before .before in
-    tried-one (past-2 (looked .before)) (is-false _ (none-found _ _ _ (looked .first-outside .ensures) (c .if3 .left)))
+    tried-one (past-2 (looked .before)) (is-false _ (none-found _ _ _ (looked .first-refused .ensures) (c .if3 .left)))
 
 past-4 : (c : tie.Else4) → Past 4 (c .before .before .before .before .before .before)
-unfolding openTests selfLoop loopAt
-past-4 c = tried-one (past-3 (c .before)) (is-false _ (none-found _ _ _ (c .before .before .first-loop .ensures) (c .if4 .left)))
+unfolding openTests selfLoop refusedAt loopAt
+past-4 c = tried-one (past-3 (c .before)) (is-false _ (none-found _ _ _ (c .before .before .first-refused2 .ensures) (c .if4 .left)))
 
 past-5 : (c : tie.Else5) → Past 5 (c .before .before .before .before .before .before .before .before)
-unfolding openTests oneWay oneWayAt unanswered
-past-5 c = tried-one (past-4 (c .before .before)) (is-false _ (none-found _ _ _ (c .before .first-one-way .ensures) (c .if5 .left)))
+unfolding openTests oneWay refusedAt oneWayAt unanswered
+past-5 c = tried-one (past-4 (c .before .before)) (is-false _ (none-found _ _ _ (c .before .first-refused3 .ensures) (c .if5 .left)))
 
 returns : tie.Need-returns
 unfolding openTests number refusalOf
@@ -53,28 +53,28 @@ returns-2 : tie.Need-returns-2
 unfolding openTests number refusalOf
 returns-2 c = refused-here (past-1 (c .before)) (lt-ltb _ _ (c .if2 .taken))
 
-first-outside-requires : tie.Need-first-outside-requires
-first-outside-requires c κs = tt
+first-refused-requires : tie.Need-first-refused-requires
+first-refused-requires c κs = tt
 
-first-loop-requires : tie.Need-first-loop-requires
-first-loop-requires c κs = tt
+first-refused-requires-2 : tie.Need-first-refused-requires-2
+first-refused-requires-2 c κs = tt
 
 returns-3 : tie.Need-returns-3
-unfolding openTests number refusalOf bitOutside outsideAt fromUp arcs
+unfolding openTests number refusalOf bitOutside refusedAt outsideAt fromUp arcs
 returns-3 c =
     let looked = c .before .before in
-    refused-here (past-2 (looked .before)) (is-true _ (some-found _ _ _ (looked .first-outside .ensures) (c .if3 .taken)))
+    refused-here (past-2 (looked .before)) (is-true _ (some-found _ _ _ (looked .first-refused .ensures) (c .if3 .taken)))
 
 returns-4 : tie.Need-returns-4
-unfolding openTests number refusalOf selfLoop loopAt
-returns-4 c = refused-here (past-3 (c .before)) (is-true _ (some-found _ _ _ (c .before .before .first-loop .ensures) (c .if4 .taken)))
+unfolding openTests number refusalOf selfLoop refusedAt loopAt
+returns-4 c = refused-here (past-3 (c .before)) (is-true _ (some-found _ _ _ (c .before .before .first-refused2 .ensures) (c .if4 .taken)))
 
-first-one-way-requires : tie.Need-first-one-way-requires
-first-one-way-requires c κs = tt
+first-refused-requires-3 : tie.Need-first-refused-requires-3
+first-refused-requires-3 c κs = tt
 
 returns-5 : tie.Need-returns-5
-unfolding openTests number refusalOf oneWay oneWayAt unanswered
-returns-5 c = refused-here (past-4 (c .before .before)) (is-true _ (some-found _ _ _ (c .before .first-one-way .ensures) (c .if5 .taken)))
+unfolding openTests number refusalOf oneWay refusedAt oneWayAt unanswered
+returns-5 c = refused-here (past-4 (c .before .before)) (is-true _ (some-found _ _ _ (c .before .first-refused3 .ensures) (c .if5 .taken)))
 
 returns-6 : tie.Need-returns-6
 unfolding openTests number refusalOf
@@ -86,10 +86,10 @@ open-refusal-spec =
     (tie.spec
     returns
     returns-2
-    first-outside-requires
-    first-loop-requires
+    first-refused-requires
+    first-refused-requires-2
     returns-3
     returns-4
-    first-one-way-requires
+    first-refused-requires-3
     returns-5
     returns-6)
