@@ -10,6 +10,7 @@
 //!   first_violation kind        the first of them                                  [01: first triple]
 //!   judge, carry_on             the two calls, as the firmware sees them           [01: the calls]
 //!   open_walk                   the open walk, and its four calls
+//!   sheet                       the sheet: written, read and judged
 
 /// A point's number.
 pub type Vertex = usize;
@@ -292,6 +293,7 @@ pub fn carry_on(
 }
 
 pub mod open_walk;
+pub mod sheet;
 
 #[cfg(test)]
 mod tests;

@@ -1,5 +1,6 @@
 //! Plans to try, as the bytes that the calls take.
 
+use crate::definition::Graph;
 use crate::random::Random;
 
 /// Rows of a plan; bit v of row u is set when u and v are linked.
@@ -21,6 +22,14 @@ pub fn plan(n: usize, links: &[(usize, usize)]) -> Vec<u8> {
         link(&mut rows, u, v);
     }
     to_plan(&rows)
+}
+
+/// The links of a plan, the smaller point first, ascending.
+pub fn links(plan: &[u8]) -> Vec<(usize, usize)> {
+    let graph = Graph::from_plan(plan);
+    let n = graph.size();
+    let pairs = (0..n).flat_map(|u| (u + 1..n).map(move |v| (u, v)));
+    pairs.filter(|&(u, v)| graph.linked(u, v)).collect()
 }
 
 /// Every plan of n points.

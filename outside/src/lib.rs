@@ -6,6 +6,7 @@
 //!   graphs       plans to try
 //!   orderings    walks and preference lists to try
 //!   calls        the inputs of one call, sound or damaged
+//!   sheets       sheets to try, sound or damaged
 //!   random       numbers from a fixed seed
 
 pub mod bitset;
@@ -14,6 +15,7 @@ pub mod definition;
 pub mod graphs;
 pub mod orderings;
 pub mod random;
+pub mod sheets;
 
 // The unit tests are linked without the library.
 #[cfg(not(test))]

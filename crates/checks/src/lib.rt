@@ -12,6 +12,31 @@ use searches::Kind;
 use searches::Outcome;
 use searches::Refusal;
 
+// The number of a refusal.
+pub fn number(refusal: Refusal) -> u32
+    ensures { λ r. ⌜ r ≡ answer.number refusal ⌝ }
+{
+    match refusal {
+        Refusal::UnknownKind => 1,
+        Refusal::TooManyVertices => 2,
+        Refusal::ArcOutOfRange => 3,
+        Refusal::SelfLoop => 4,
+        Refusal::OneWayArc => 5,
+        Refusal::OrderingTooLong => 6,
+        Refusal::TieBreakLength => 7,
+        Refusal::VertexOutOfRange => 8,
+        Refusal::RepeatedVertex => 9,
+        Refusal::OutputTooShort => 10,
+        Refusal::MalformedSheet => 11,
+        Refusal::StartFails => 12,
+        Refusal::MalformedTraversal => 13,
+        Refusal::AllPlaced => 14,
+        Refusal::AlreadyPlaced => 15,
+        Refusal::NotOffered => 16,
+        Refusal::NothingToTakeBack => 17,
+    }
+}
+
 // Whether `u` has an arc to a vertex that has none back. Only the arcs of `u` are looked at.
 fn one_way_from(rows: &[u64], u: usize) -> bool
     requires { ⌜ u < length (now rows) ⌝ }
@@ -70,7 +95,7 @@ fn vertex_outside(list: &[u8], k: usize, n: usize) -> bool
 }
 
 // Whether one of the first `k` entries, all below 64, stands there twice.
-fn repeated(list: &[u8], k: usize) -> bool
+pub fn repeated(list: &[u8], k: usize) -> bool
     requires { ⌜ k ≤ length (now list) ⌝ }
     requires { ⌜ ((p : ℕ) → p < k → at (now list) p < 64) ⌝ }
     ensures { λ r. ⌜ r ≡ answer.repeated (now (list .entry)) k ⌝ }

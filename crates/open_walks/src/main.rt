@@ -3,7 +3,6 @@
 // then answers, its set, how many points there are and how many are placed, and the first five places.
 use searches::Kind;
 use searches::Outcome;
-use searches::Refusal;
 use searches::Vertex;
 use traversal::Traversal;
 
@@ -15,27 +14,10 @@ const PIECES: [u64; 5] = [6, 13, 3, 2, 0];
 
 const TAKE_BACK: u8 = 254;
 
-fn number(refusal: Refusal) -> u64 {
-    match refusal {
-        Refusal::UnknownKind => 1,
-        Refusal::TooManyVertices => 2,
-        Refusal::ArcOutOfRange => 3,
-        Refusal::SelfLoop => 4,
-        Refusal::OneWayArc => 5,
-        Refusal::VertexOutOfRange => 8,
-        Refusal::MalformedTraversal => 13,
-        Refusal::AllPlaced => 14,
-        Refusal::AlreadyPlaced => 15,
-        Refusal::NotOffered => 16,
-        Refusal::NothingToTakeBack => 17,
-        _ => 99,
-    }
-}
-
 fn answer(outcome: Outcome) -> u64 {
     match outcome {
         Outcome::Done => 0,
-        Outcome::Refused(refusal) => number(refusal),
+        Outcome::Refused(refusal) => checks::number(refusal) as u64,
     }
 }
 

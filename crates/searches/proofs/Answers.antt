@@ -1,6 +1,7 @@
 -- What the calls answer where nothing is refused, and when that is.
 --   valid-small                      a valid graph has at most 64 vertices
 --   accepts-both, both-accept        tests one behind the other
+--   clear, all-inside, none-repeated       an ordering is what the tests on its vertices let through
 --   ordering-accepted, accepted-ordering   judge refuses no ordering of a valid graph, and nothing else passes its tests
 --   start-accepted, accepted-start         likewise for carry-on
 --   judge-refused, judge-accepted          judge's answer, refused and not;   passes-accepts   what passes is not refused
@@ -38,7 +39,7 @@ both-accept (test ∷ a) b x y = (x .0, both-accept a b (x .1) y)
 
 -- ---- an ordering is what the tests on its vertices let through
 
-clear : (n : ℕ) (w : List ℕ) (k : ℕ) → k ≤ length w → (T (vertexOutside n w k) → ⊥) → (T (repeated w k) → ⊥) → IsOrdering n w k
+pub clear : (n : ℕ) (w : List ℕ) (k : ℕ) → k ≤ length w → (T (vertexOutside n w k) → ⊥) → (T (repeated w k) → ⊥) → IsOrdering n w k
 clear n w k l inside once = record {
   long = l;
   vertices = λ p h. under p h (below-or (at w p) n);
@@ -49,10 +50,10 @@ clear n w k l inside once = record {
     under p h (inl i) = i
     under p h (inr i) = absurd (inside (vertexOutside-in w k n p h i))
 
-all-inside : {n : ℕ} {w : List ℕ} {k : ℕ} → IsOrdering n w k → T (vertexOutside n w k) → ⊥
+pub all-inside : {n : ℕ} {w : List ℕ} {k : ℕ} → IsOrdering n w k → T (vertexOutside n w k) → ⊥
 all-inside {n} {w} {k} o t = let x = vertexOutside-out w k n t in omega (arith, x .2, o .vertices (x .0) (x .1))
 
-none-repeated : {n : ℕ} {w : List ℕ} {k : ℕ} → IsOrdering n w k → T (repeated w k) → ⊥
+pub none-repeated : {n : ℕ} {w : List ℕ} {k : ℕ} → IsOrdering n w k → T (repeated w k) → ⊥
 none-repeated {n} {w} {k} o t = let x = repeated-out w k t in o .distinct (x .0) (x .1) (x .2) (x .3) (x .4)
 
 -- no more than 64 rows are let through

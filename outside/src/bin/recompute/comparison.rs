@@ -48,7 +48,7 @@ impl Comparison {
         exit(1)
     }
 
-    fn count(&mut self, answer: u32) {
+    pub fn count(&mut self, answer: u32) {
         self.calls += 1;
         *self.answers.entry(answer.min(FAILED)).or_default() += 1;
     }
@@ -116,8 +116,27 @@ impl Comparison {
         }
     }
 
+    /// Prints how often each answer came, and ends the program if one came less than `enough` times.
+    pub fn coverage(&self, name: &str, answers: &[u32], enough: u64) {
+        let line: Vec<String> = answers
+            .iter()
+            .map(|&answer| {
+                let times = self.times(answer);
+                if times < enough {
+                    self.differ(&name, &[format!("answer {answer} came only {times} times")]);
+                }
+                match answer {
+                    0 => format!("0 {times} times"),
+                    FAILED => format!("a triple {times} times"),
+                    _ => format!("refusal {answer} {times} times"),
+                }
+            })
+            .collect();
+        println!("   {name} answered {}", line.join(", "));
+    }
+
     /// How often an answer came; all triples count as one.
-    pub fn times(&self, answer: u32) -> u64 {
+    fn times(&self, answer: u32) -> u64 {
         self.answers.get(&answer).copied().unwrap_or(0)
     }
 

@@ -5,12 +5,14 @@
 //!   c   all small plans
 //!   d   random plans, walks and damaged inputs from a fixed seed
 //!   e   the open walks that a program of the library plays
+//!   f   the sheets that a program of the library judges
 
 mod comparison;
 mod document;
 mod examples;
 mod open_walks;
 mod random_calls;
+mod sheets;
 mod small_plans;
 
 fn main() {
@@ -18,6 +20,7 @@ fn main() {
         + document::compare()
         + small_plans::compare()
         + random_calls::compare()
-        + open_walks::compare();
+        + open_walks::compare()
+        + sheets::compare();
     println!("all {calls} calls agree");
 }

@@ -27,8 +27,8 @@ pub fn compare() -> u64 {
         carry_on_damaged(&mut random, &mut carried, call);
     }
     let calls = judged.finish() + carried.finish();
-    coverage("judge", &judged, &[0, 1, 2, 3, 4, 5, 6, 8, 9, FAILED]);
-    coverage("carry-on", &carried, &[0, 1, 2, 3, 4, 5, 6, 7, 8, 9, 10, 12]);
+    judged.coverage("judge", &[0, 1, 2, 3, 4, 5, 6, 8, 9, FAILED], ENOUGH);
+    carried.coverage("carry-on", &[0, 1, 2, 3, 4, 5, 6, 7, 8, 9, 10, 12], ENOUGH);
     calls
 }
 
@@ -50,23 +50,4 @@ fn carry_on_and_judge(judged: &mut Comparison, carried: &mut Comparison, call: &
         let reached = JudgeCall { kind: call.kind, plan: call.plan.clone(), walk };
         judged.expect_judge(&reached, 0);
     }
-}
-
-/// Prints how often each answer came, and ends the program if one was too rare.
-fn coverage(name: &str, comparison: &Comparison, answers: &[u32]) {
-    let line: Vec<String> = answers
-        .iter()
-        .map(|&answer| {
-            let times = comparison.times(answer);
-            if times < ENOUGH {
-                comparison.differ(&name, &[format!("answer {answer} came only {times} times")]);
-            }
-            match answer {
-                0 => format!("0 {times} times"),
-                FAILED => format!("a triple {times} times"),
-                _ => format!("refusal {answer} {times} times"),
-            }
-        })
-        .collect();
-    println!("   {name} answered {}", line.join(", "));
 }

@@ -1,0 +1,11 @@
+pub mod LineByLine
+pub mod Sheets
+pub mod Writing
+pub mod Joined
+pub mod Accepted
+pub mod Listed
+pub mod Standing
+pub mod Written
+pub mod Links
+pub mod ReadBack
+pub mod RoundTrip

@@ -1,0 +1,4 @@
+pub mod Sheet
+pub mod Lines
+pub mod Judged
+pub mod Written
