@@ -1,0 +1,9 @@
+pub mod Lists
+pub mod Algorithm
+pub mod GenericSet
+pub mod BreadthQueue
+pub mod DepthStack
+pub mod Labelling
+pub mod LexBfsDigits
+pub mod LexDfsDigits
+pub mod MaximalNeighbourhood
