@@ -22,5 +22,5 @@ pub record QueueStep (arc : ℕ → ℕ → Bool) (n : ℕ) (w queue : List ℕ)
   pub in-any-order : InAnyOrder n (awaits arc w v) neighbours
   pub becomes : queue′ ≡ each enqueue rest neighbours
 
-unfoldable pub breadthQueue : (ℕ → ℕ → Bool) → ℕ → Algorithm
+abbrev pub breadthQueue : (ℕ → ℕ → Bool) → ℕ → Algorithm
 breadthQueue arc n = record { Data = List ℕ; start = λ s. s ∷ []; Step = QueueStep arc n }

@@ -23,5 +23,5 @@ pub record StackStep (arc : ℕ → ℕ → Bool) (n : ℕ) (w stack : List ℕ)
   pub in-any-order : InAnyOrder n (awaits arc w v) neighbours
   pub becomes : stack′ ≡ each push rest neighbours
 
-unfoldable pub depthStack : (ℕ → ℕ → Bool) → ℕ → Algorithm
+abbrev pub depthStack : (ℕ → ℕ → Bool) → ℕ → Algorithm
 depthStack arc n = record { Data = List ℕ; start = λ s. s ∷ []; Step = StackStep arc n }

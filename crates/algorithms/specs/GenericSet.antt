@@ -25,5 +25,5 @@ pub record SetStep (arc : ℕ → ℕ → Bool) (n : ℕ) (w : List ℕ) (set : 
   pub candidate : Candidate n set w v
   pub becomes : set′ ≡ added arc set w v
 
-unfoldable pub genericSet : (ℕ → ℕ → Bool) → ℕ → Algorithm
+abbrev pub genericSet : (ℕ → ℕ → Bool) → ℕ → Algorithm
 genericSet arc n = record { Data = ℕ → Bool; start = λ s. eqb s; Step = SetStep arc n }

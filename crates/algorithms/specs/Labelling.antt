@@ -36,5 +36,5 @@ module _ (ls : Labels) where
     pub largest : (u : ℕ) → u < n → (T (numbered w u) → ⊥) → T (ls .larger (d u) (d v)) → ⊥
     pub becomes : d′ ≡ relabelled arc w v d
 
-  unfoldable pub labelling : (ℕ → ℕ → Bool) → ℕ → Algorithm
+  abbrev pub labelling : (ℕ → ℕ → Bool) → ℕ → Algorithm
   labelling arc n = record { Data = ℕ → ls .Label; start = firstLabels; Step = LabelStep arc n }

@@ -15,7 +15,7 @@ lexLarger [] ys = false
 lexLarger (x ∷ xs) [] = true
 lexLarger (x ∷ xs) (y ∷ ys) = let rest = lexLarger xs ys in ltb y x || (eqb x y && rest)
 
-unfoldable pub appended : ℕ → Labels
+abbrev pub appended : ℕ → Labels
 appended n = record {
   Label = List ℕ;
   blank = [];
@@ -24,5 +24,5 @@ appended n = record {
   larger = lexLarger;
 }
 
-unfoldable pub lexBfsDigits : (ℕ → ℕ → Bool) → ℕ → Algorithm
+abbrev pub lexBfsDigits : (ℕ → ℕ → Bool) → ℕ → Algorithm
 lexBfsDigits arc n = labelling (appended n) arc n

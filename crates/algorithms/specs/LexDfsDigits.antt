@@ -8,7 +8,7 @@ use Rattle.algorithms.specs.Algorithm.{Algorithm}
 use Rattle.algorithms.specs.Labelling.{Labels, labelling}
 use Rattle.algorithms.specs.LexBfsDigits.{lexLarger}
 
-unfoldable pub prepended : Labels
+abbrev pub prepended : Labels
 prepended = record {
   Label = List ℕ;
   blank = [];
@@ -17,5 +17,5 @@ prepended = record {
   larger = lexLarger;
 }
 
-unfoldable pub lexDfsDigits : (ℕ → ℕ → Bool) → ℕ → Algorithm
+abbrev pub lexDfsDigits : (ℕ → ℕ → Bool) → ℕ → Algorithm
 lexDfsDigits arc n = labelling prepended arc n

@@ -9,7 +9,7 @@ use Rattle.bitset.specs.Below.{within}
 use Rattle.algorithms.specs.Algorithm.{Algorithm}
 use Rattle.algorithms.specs.Labelling.{Labels, labelling}
 
-unfoldable pub neighbourSets : ℕ → Labels
+abbrev pub neighbourSets : ℕ → Labels
 neighbourSets n = record {
   Label = ℕ → Bool;
   blank = λ i. false;
@@ -18,5 +18,5 @@ neighbourSets n = record {
   larger = λ f g. within (suc n) g f && not (within (suc n) f g);
 }
 
-unfoldable pub maximalNeighbourhood : (ℕ → ℕ → Bool) → ℕ → Algorithm
+abbrev pub maximalNeighbourhood : (ℕ → ℕ → Bool) → ℕ → Algorithm
 maximalNeighbourhood arc n = labelling (neighbourSets n) arc n

@@ -1,7 +1,7 @@
 -- Offered vertices and runs.
 --   Offered s arc n w k v            offered, condition by condition; offered-in, offered-out
 --   unoffered-beaten                 an unplaced vertex that is not offered has one ahead of it
---   label-agree, outranks-agree, offered-agree   only the first k positions matter
+--   outranks-agree, offered-agree    only the first k positions matter
 --   some-offered                     where a vertex is unplaced, one is offered
 --   all-offered-first, restart-allowed, restart-only-then   where a piece of the graph may be started
 --   Greedy s arc n w k               each of the first k vertices was offered at its time
@@ -82,7 +82,7 @@ module _ (s : Search) (arc : ℕ → ℕ → Bool) (n : ℕ) where
 
   -- ---- only the first k positions matter
 
-  pub label-agree : (k v : ℕ) (w w′ : List ℕ) → Agree k w w′ → (p : ℕ) → p < k → label arc w v p ≡ label arc w′ v p
+  label-agree : (k v : ℕ) (w w′ : List ℕ) → Agree k w w′ → (p : ℕ) → p < k → label arc w v p ≡ label arc w′ v p
   unfolding label
   label-agree k v w w′ a p l = cc (a p l)
 

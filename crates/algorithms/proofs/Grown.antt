@@ -1,0 +1,52 @@
+-- One vertex more: what is numbered, and which positions are in a label, before and after v is numbered behind w.
+--   numbered-before, numbered-now, numbered-after   with v numbered, u is if it was before, or is v
+--   awaits-in, awaits-out                           awaits: v leads to u, which stays unnumbered
+--   label-same, label-now                           labels keep their positions; length w is a new one where v leads to u
+-- Assumes nothing.
+use mathlib.Core.Path.{_≡_, refl, sym, ap, _∙_, subst}
+use mathlib.Core.Bool.{Bool, not}
+use mathlib.Core.Logic.{_⊎_, inl, inr}
+use mathlib.Core.List.{List, [], _∷_, _++_}
+use Prim.Native.Nat.{ℕ, zero, suc, _≤_, _<_}
+use native.Mathlib.Omega.{arith}
+use lib.Dec.{T, not-T, T-not}
+use lib.ListN.{length}
+use Rattle.bitset.proofs.Tests.{and-in, and-out, below-suc}
+use Rattle.searches.specs.Ordering.{at, placed}
+use Rattle.searches.specs.Label.{label}
+use Rattle.searches.proofs.Ordering.{placed-in, placed-out, length-grown, grown-agree, grown-last}
+use Rattle.algorithms.specs.Algorithm.{numbered, awaits}
+
+module _ (w : List ℕ) (v : ℕ) where
+  pub numbered-before : (u : ℕ) → T (numbered w u) → T (numbered (w ++ v ∷ []) u)
+  numbered-before u t =
+      let s = placed-out w (length w) u t in
+      placed-in (w ++ v ∷ []) (length (w ++ v ∷ [])) u (s .0) (omega (arith, s .1, length-grown w v)) (grown-agree w v (s .0) (s .1) ∙ s .2)
+
+  pub numbered-now : (u : ℕ) → v ≡ u → T (numbered (w ++ v ∷ []) u)
+  numbered-now u e = placed-in (w ++ v ∷ []) (length (w ++ v ∷ [])) u (length w) (omega (arith, length-grown w v)) (grown-last w v ∙ e)
+
+  pub numbered-after : (u : ℕ) → T (numbered (w ++ v ∷ []) u) → T (numbered w u) ⊎ (v ≡ u)
+  numbered-after u t = let s = placed-out (w ++ v ∷ []) (length (w ++ v ∷ [])) u t in
+      go (s .0) (s .2) (below-suc (length w) (s .0) (omega (arith, s .1, length-grown w v)))
+    where
+      go : (p : ℕ) → at (w ++ v ∷ []) p ≡ u → (p < length w) ⊎ (p ≡ length w) → T (numbered w u) ⊎ (v ≡ u)
+      go p e (inl l) = inl (placed-in w (length w) u p l (sym (grown-agree w v p l) ∙ e))
+      go p e (inr same) = inr (sym (grown-last w v) ∙ ap (λ (q : ℕ). at (w ++ v ∷ []) q) (sym same) ∙ e)
+
+  module _ (arc : ℕ → ℕ → Bool) (u : ℕ) where
+    pub awaits-in : T (arc v u) → (T (numbered (w ++ v ∷ []) u) → ⊥) → T (awaits arc w v u)
+    unfolding awaits
+    awaits-in t out = and-in (arc v u) (not (numbered (w ++ v ∷ []) u)) t (not-T (numbered (w ++ v ∷ []) u) out)
+
+    pub awaits-out : T (awaits arc w v u) → T (arc v u) × (T (numbered (w ++ v ∷ []) u) → ⊥)
+    unfolding awaits
+    awaits-out t = let both = and-out (arc v u) (not (numbered (w ++ v ∷ []) u)) t in (both .0, T-not (numbered (w ++ v ∷ []) u) (both .1))
+
+    pub label-same : (p : ℕ) → p < length w → label arc (w ++ v ∷ []) u p ≡ label arc w u p
+    unfolding label
+    label-same p l = ap (λ (x : ℕ). arc x u) (grown-agree w v p l)
+
+    pub label-now : label arc (w ++ v ∷ []) u (length w) ≡ arc v u
+    unfolding label
+    label-now = ap (λ (x : ℕ). arc x u) (grown-last w v)
