@@ -1,5 +1,8 @@
 pub mod Lists
 pub mod Lift
 pub mod Grown
-pub mod GenericSet
 pub mod Labelling
+pub mod Digits
+pub mod DigitLabels
+pub mod NeighbourSets
+pub mod GenericSet

@@ -4,6 +4,7 @@ pub mod GenericSet
 pub mod BreadthQueue
 pub mod DepthStack
 pub mod Labelling
+pub mod Digits
 pub mod LexBfsDigits
 pub mod LexDfsDigits
 pub mod MaximalNeighbourhood
