@@ -2,6 +2,7 @@
 --   numbered-before, numbered-now, numbered-after   with v numbered, u is if it was before, or is v
 --   awaits-in, awaits-out                           awaits: v leads to u, which stays unnumbered
 --   label-same, label-now                           labels keep their positions; length w is a new one where v leads to u
+--   reached-after, reached-now, reached-before      who has a position in the label
 -- Assumes nothing.
 use mathlib.Core.Path.{_≡_, refl, sym, ap, _∙_, subst}
 use mathlib.Core.Bool.{Bool, not}
@@ -12,10 +13,14 @@ use native.Mathlib.Omega.{arith}
 use lib.Dec.{T, not-T, T-not}
 use lib.ListN.{length}
 use Rattle.bitset.proofs.Tests.{and-in, and-out, below-suc}
+use Rattle.bitset.proofs.Below.{Some}
 use Rattle.searches.specs.Ordering.{at, placed}
 use Rattle.searches.specs.Label.{label}
 use Rattle.searches.proofs.Ordering.{placed-in, placed-out, length-grown, grown-agree, grown-last}
 use Rattle.algorithms.specs.Algorithm.{numbered, awaits}
+
+pub none-numbered : (u : ℕ) → T (numbered [] u) → ⊥
+none-numbered u t = let p = placed-out [] 0 u t in omega (arith, p .1)
 
 module _ (w : List ℕ) (v : ℕ) where
   pub numbered-before : (u : ℕ) → T (numbered w u) → T (numbered (w ++ v ∷ []) u)
@@ -50,3 +55,21 @@ module _ (w : List ℕ) (v : ℕ) where
     pub label-now : label arc (w ++ v ∷ []) u (length w) ≡ arc v u
     unfolding label
     label-now = ap (λ (x : ℕ). arc x u) (grown-last w v)
+
+    -- who is reached, now or before
+    pub reached-after : Some (length w) (label arc w u) → Some (length (w ++ v ∷ [])) (label arc (w ++ v ∷ []) u)
+    reached-after s = record {
+      at = s .at;
+      below = omega (arith, s .below, length-grown w v);
+      holds = subst (λ (b : Bool). T b) (sym (label-same (s .at) (s .below))) (s .holds);
+    }
+
+    pub reached-now : T (arc v u) → Some (length (w ++ v ∷ [])) (label arc (w ++ v ∷ []) u)
+    reached-now t = record { at = length w; below = omega (arith, length-grown w v); holds = subst (λ (b : Bool). T b) (sym label-now) t }
+
+    pub reached-before : Some (length (w ++ v ∷ [])) (label arc (w ++ v ∷ []) u) → Some (length w) (label arc w u) ⊎ T (arc v u)
+    reached-before s = go (s .at) (s .holds) (below-suc (length w) (s .at) (omega (arith, s .below, length-grown w v)))
+      where
+        go : (p : ℕ) → T (label arc (w ++ v ∷ []) u p) → (p < length w) ⊎ (p ≡ length w) → Some (length w) (label arc w u) ⊎ T (arc v u)
+        go p t (inl l) = inl (record { at = p; below = l; holds = subst (λ (b : Bool). T b) (label-same p l) t })
+        go p t (inr e) = inr (subst (λ (b : Bool). T b) (ap (λ (q : ℕ). label arc (w ++ v ∷ []) u q) e ∙ label-now) t)

@@ -14,11 +14,11 @@ use Rattle.bitset.proofs.Tests.{decided, cond-yes, cond-no}
 use Rattle.searches.specs.Kind.{Search}
 use Rattle.searches.specs.Label.{label, outranks}
 use Rattle.searches.specs.Run.{offered, Run}
-use Rattle.searches.proofs.Ordering.{placed-out, length-grown}
+use Rattle.searches.proofs.Ordering.{length-grown}
 use Rattle.searches.proofs.Run.{offered-in, offered-out}
 use Rattle.algorithms.specs.Algorithm.{numbered, awaits, Produced}
 use Rattle.algorithms.specs.Labelling.{Labels, firstLabels, relabelled, LabelStep, labelling}
-use Rattle.algorithms.proofs.Grown.{numbered-before, numbered-now, awaits-in, awaits-out, label-same, label-now}
+use Rattle.algorithms.proofs.Grown.{none-numbered, numbered-before, numbered-now, awaits-in, awaits-out, label-same, label-now}
 use Rattle.algorithms.proofs.Lift.{Sound, Along, Turn, Complete, sound-run, complete-produced}
 
 pub record Reading (s : Search) (n : ℕ) (ls : Labels) (means : ℕ → (ℕ → Bool) → ls .Label → Type 0) : Type 0 where
@@ -71,22 +71,19 @@ module _ (s : Search) (arc : ℕ → ℕ → Bool) (n : ℕ) (ls : Labels) (mean
   unfolding firstLabels
   first-other x u apart = cond-no (eqb x u) (ls .first) (ls .blank) (λ t. apart (eqb→eq x u t))
 
-  none-numbered : (u : ℕ) → T (numbered [] u) → ⊥
-  none-numbered u t = let p = placed-out [] 0 u t in omega (arith, p .1)
-
   -- the start vertex is picked first
-  starts-there : (x v : ℕ) (d′ : ℕ → ls .Label) → (zero < n → x < n) → LabelStep ls arc n [] (firstLabels ls x) v d′ → x ≡ v
+  starts-there : (x v : ℕ) (d′ : ℕ → ls .Label) → x < n → LabelStep ls arc n [] (firstLabels ls x) v d′ → x ≡ v
   starts-there x v d′ vertex step = go (decided (eqb x v))
     where
       go : T (eqb x v) ⊎ (T (eqb x v) → ⊥) → x ≡ v
       go (inl t) = eqb→eq x v t
       go (inr apart) =
           let other = first-other x v (λ e. apart (subst (λ (y : ℕ). T (eqb x y)) e (eqb-refl x))) in
-          absurd (step .largest x (vertex (omega (arith, step .vertex))) (none-numbered x)
+          absurd (step .largest x vertex (none-numbered x)
           (subst (λ (y : ls .Label). T (ls .larger (firstLabels ls x x) y)) (sym other)
           (subst (λ (y : ls .Label). T (ls .larger y (ls .blank))) (sym (first-start x)) (reading .first-larger))))
 
-  said-first : (x v : ℕ) (d′ : ℕ → ls .Label) → (zero < n → x < n) → LabelStep ls arc n [] (firstLabels ls x) v d′ → Said (v ∷ []) d′
+  said-first : (x v : ℕ) (d′ : ℕ → ls .Label) → x < n → LabelStep ls arc n [] (firstLabels ls x) v d′ → Said (v ∷ []) d′
   said-first x v d′ vertex step u l out =
       let e = starts-there x v d′ vertex step in
       let other : firstLabels ls x u ≡ ls .blank = first-other x u (λ same. out (numbered-now [] v u (sym e ∙ same))) in
@@ -141,7 +138,7 @@ module _ (s : Search) (arc : ℕ → ℕ → Bool) (n : ℕ) (ls : Labels) (mean
     opens = λ v along l. record {
       after = relabelled ls arc [] v (firstLabels ls v);
       step = first-step v l;
-      held = said-first v v (relabelled ls arc [] v (firstLabels ls v)) (λ _. l) (first-step v l);
+      held = said-first v v (relabelled ls arc [] v (firstLabels ls v)) l (first-step v l);
     };
     goes = λ w d v along said o.
         let step = next-step w d v (along .inside) said o in

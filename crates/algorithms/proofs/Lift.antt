@@ -34,7 +34,7 @@ module _ (s : Search) (arc : ℕ → ℕ → Bool) (n : ℕ) where
   module _ (a : Algorithm) (holds : List ℕ → a .Data → Type 0) where
     -- the turns of a search keep `holds`, a fact about the data once a vertex is numbered, and pick offered vertices
     pub record Sound : Type 0 where
-      pub opens : (x v : ℕ) (d′ : a .Data) → (zero < n → x < n) → a .Step [] (a .start x) v d′ → (v < n) × holds (v ∷ []) d′
+      pub opens : (x v : ℕ) (d′ : a .Data) → x < n → a .Step [] (a .start x) v d′ → (v < n) × holds (v ∷ []) d′
       pub offers : (w : List ℕ) (d : a .Data) (v : ℕ) (d′ : a .Data) → length w ≤ n → holds w d → a .Step w d v d′ → T (offered s arc n w (length w) v)
       pub keeps : (w : List ℕ) (d : a .Data) (v : ℕ) (d′ : a .Data) → length w < n → holds w d → a .Step w d v d′ → holds (w ++ v ∷ []) d′
 
@@ -64,25 +64,23 @@ module _ (s : Search) (arc : ℕ → ℕ → Bool) (n : ℕ) where
     held-after x (y ∷ w) v d h = h
 
     module _ (sound : Sound) (x : ℕ) (vertex : zero < n → x < n) where
-      one-turn : (w : List ℕ) (d : a .Data) (v : ℕ) (d′ : a .Data) → Reached s arc n w → Held x w d → a .Step w d v d′
+      one-turn : (w : List ℕ) (d : a .Data) (v : ℕ) (d′ : a .Data) → length w < n → Held x w d → a .Step w d v d′
           → T (offered s arc n w (length w) v) × holds (w ++ v ∷ []) d′
-      one-turn [] d v d′ r h step =
-          let o = sound .opens x v d′ vertex (subst (λ (e : a .Data). a .Step [] e v d′) h step) in
+      one-turn [] d v d′ l h step =
+          let o = sound .opens x v d′ (vertex l) (subst (λ (e : a .Data). a .Step [] e v d′) h step) in
           (all-offered-first s arc n [] v (o .0), o .1)
-      one-turn (y ∷ w) d v d′ r h step =
-          let l = ordering-fits n (reached-ordering r) in
-          let o = sound .offers (y ∷ w) d v d′ l h step in
-          (o, sound .keeps (y ∷ w) d v d′ (reached-room v r o) h step)
+      one-turn (y ∷ w) d v d′ l h step = (sound .offers (y ∷ w) d v d′ (omega arith) h step, sound .keeps (y ∷ w) d v d′ l h step)
 
-      steps-reached : {w : List ℕ} {d : a .Data} → Steps a x w d → Reached s arc n w × Held x w d
-      steps-reached begun = (nothing, refl)
-      steps-reached (turned {w = w} {d = d} v d′ before step) =
-          let so-far = steps-reached before in
-          let now = one-turn w d v d′ (so-far .0) (so-far .1) step in
+      steps-reached : {w : List ℕ} {d : a .Data} → Steps a x w d → length w ≤ n → Reached s arc n w × Held x w d
+      steps-reached begun l = (nothing, refl)
+      steps-reached (turned {w = w} {d = d} v d′ before step) l =
+          let room : length w < n = omega (arith, l, length-grown w v) in
+          let so-far = steps-reached before (omega arith) in
+          let now = one-turn w d v d′ room (so-far .1) step in
           (next v (so-far .0) (now .0), held-after x w v d′ (now .1))
 
     pub sound-run : Sound → (w : List ℕ) → Produced a n w → Run s arc n w
-    sound-run sound w p = record { reached = steps-reached sound (p .from) (p .vertex) (p .steps) .0; full = p .full }
+    sound-run sound w p = record { reached = steps-reached sound (p .from) (p .vertex) (p .steps) (omega (arith, p .full)) .0; full = p .full }
 
     module _ (r : List ℕ) (complete : Complete r) where
       -- turns that number w
