@@ -6,3 +6,4 @@ pub mod Digits
 pub mod DigitLabels
 pub mod NeighbourSets
 pub mod GenericSet
+pub mod Waiting

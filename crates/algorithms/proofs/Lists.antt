@@ -118,9 +118,13 @@ position-among (x ∷ xs) (suc p) u l e = among-later x u xs (position-among xs 
 
 -- ---- between entries
 
-pub pairwise-map : {rel rel′ : ℕ → ℕ → Type 0} → ((u u′ : ℕ) → rel u u′ → rel′ u u′) → (xs : List ℕ) → Pairwise rel xs → Pairwise rel′ xs
-pairwise-map h [] p = tt
-pairwise-map h (x ∷ xs) p = (λ u t. h x u (p .0 u t), pairwise-map h xs (p .1))
+pub pairwise-map : {rel rel′ : ℕ → ℕ → Type 0} (xs : List ℕ) → ((u u′ : ℕ) → T (among xs u) → T (among xs u′) → rel u u′ → rel′ u u′)
+    → Pairwise rel xs → Pairwise rel′ xs
+pairwise-map [] h p = tt
+pairwise-map (x ∷ xs) h p = (
+  λ u t. h x u (among-here x x xs refl) (among-later x u xs t) (p .0 u t),
+  pairwise-map xs (λ u u′ t t′. h u u′ (among-later x u xs t) (among-later x u′ xs t′)) (p .1),
+)
 
 module _ (rel : ℕ → ℕ → Type 0) where
   pub pairwise-keep : (f : ℕ → Bool) (xs : List ℕ) → Pairwise rel xs → Pairwise rel (keep f xs)
@@ -184,7 +188,7 @@ pub order-backward : {n : ℕ} {f : ℕ → Bool} (xs : List ℕ) → InAnyOrder
 order-backward xs o = record {
   only = λ u t. o .only u (among-backward-out xs u t);
   all = λ u l p. among-backward-in xs u (o .all u l p);
-  once = pairwise-map (λ u u′ apart e. apart (sym e)) (backward xs) (pairwise-backward (λ u u′. u ≡ u′ → ⊥) xs (o .once));
+  once = pairwise-map (backward xs) (λ u u′ t t′ apart e. apart (sym e)) (pairwise-backward (λ u u′. u ≡ u′ → ⊥) xs (o .once));
 }
 
 -- ---- in the order of a full ordering
