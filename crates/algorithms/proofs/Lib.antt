@@ -7,3 +7,4 @@ pub mod DigitLabels
 pub mod NeighbourSets
 pub mod GenericSet
 pub mod Waiting
+pub mod FrontFirst

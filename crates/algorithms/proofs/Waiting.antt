@@ -27,7 +27,8 @@ use Rattle.searches.proofs.StrictOrder.{outranks-irreflexive}
 use Rattle.searches.proofs.Ordering.{Agree, agree-sym, placed-agree, length-grown, grown-agree}
 use Rattle.searches.proofs.Run.{offered-in, offered-out, restart-allowed, restart-only-then, outranks-agree}
 use Rattle.algorithms.specs.Lists.{among, Pairwise, InAnyOrder}
-use Rattle.algorithms.specs.Algorithm.{numbered, awaits, Takes, front, restart}
+use Rattle.algorithms.specs.Algorithm.{numbered, awaits}
+use Rattle.algorithms.specs.FrontFirst.{Takes, front, restart}
 use Rattle.algorithms.proofs.Lists.{among-here, among-later, among-none, among-out, pairwise-map, Earlier}
 use Rattle.algorithms.proofs.Grown.{numbered-before, numbered-now, numbered-after, awaits-in, awaits-out, reached-after, reached-now, reached-before}
 

@@ -5,8 +5,9 @@
 --     Step w d v d′              with w numbered and data d the loop may pick v next, and the data is then d′
 --   Steps a s w d                turns from start vertex s that number w and end with data d
 --   Produced a n w               some start vertex and some turns number all n vertices, in the order w
---   Takes n w xs v rest          v is taken from the front of xs; where xs is empty, any unnumbered vertex is put in and taken
 -- The vertex at position p, counted from 0, has the number i = p + 1.
+-- Document 001 takes graphs in one piece. Each algorithm's file says how it goes on behind a piece, by 01's rule: when no unnumbered vertex is
+-- led to by a numbered one, any may come next.
 use Prim.Native.Nat.{ℕ, zero, suc, _<_}
 use mathlib.Core.Path.{_≡_}
 use mathlib.Core.Bool.{Bool, not, _&&_}
@@ -38,8 +39,3 @@ module _ (a : Algorithm) where
     pub data′ : a .Data
     pub steps : Steps from w data′
     pub full : length w ≡ n
-
--- 01's restart: document 001 takes graphs in one piece, where nothing is ever empty while a vertex is unnumbered
-pub data Takes (n : ℕ) (w : List ℕ) : List ℕ → ℕ → List ℕ → Type 0 where
-  front : (v : ℕ) (rest : List ℕ) → Takes n w (v ∷ rest) v rest
-  restart : (v : ℕ) → v < n → (T (numbered w v) → ⊥) → Takes n w [] v []

@@ -1,6 +1,7 @@
 pub mod Lists
 pub mod Algorithm
 pub mod GenericSet
+pub mod FrontFirst
 pub mod BreadthQueue
 pub mod DepthStack
 pub mod Labelling
