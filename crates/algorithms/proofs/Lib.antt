@@ -8,3 +8,5 @@ pub mod NeighbourSets
 pub mod GenericSet
 pub mod Waiting
 pub mod FrontFirst
+pub mod BreadthQueue
+pub mod DepthStack

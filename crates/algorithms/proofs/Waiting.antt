@@ -113,7 +113,7 @@ module _ (s : Search) (arc : ℕ → ℕ → Bool) (n : ℕ) where
       in-order-grown u u′ o = record {
         apart = o .apart;
         behind = λ t. o .behind (outranks-agree s arc n (length w) u′ u (w ++ v ∷ []) w (grown-agree w v) t);
-        tied = λ no. o .tied (λ t. no (outranks-agree s arc n (length w) u u′ w (w ++ v ∷ []) (agree-sym (length w) (w ++ v ∷ []) w (grown-agree w v)) t));
+        tied = λ level. o .tied (λ t. level (outranks-agree s arc n (length w) u u′ w (w ++ v ∷ []) (agree-sym (length w) (w ++ v ∷ []) w (grown-agree w v)) t));
       }
 
       pub waiting-on : (rest new xs : List ℕ) → Left w v rest → InAnyOrder n (awaits arc w v) new
