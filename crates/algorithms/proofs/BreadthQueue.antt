@@ -18,7 +18,7 @@ use Rattle.searches.proofs.Reason.{Reason, outranks→reason, reason→outranks
 use Rattle.algorithms.specs.Lists.{among, keep, Pairwise, InAnyOrder, each}
 use Rattle.algorithms.specs.Algorithm.{numbered, awaits}
 use Rattle.algorithms.specs.BreadthQueue.{enqueue}
-use Rattle.algorithms.proofs.Lists.{among-later, among-here, among-append-left, among-last, among-last-out, pairwise-map, pairwise-last, pairwise-backward}
+use Rattle.algorithms.proofs.Lists.{among-later, among-here, among-append-left, among-last, among-last-out, pairwise-map, pairwise-any, pairwise-last, pairwise-backward}
 use Rattle.algorithms.proofs.Lists.{Earlier, backward, order-backward, order-listed, listed-earlier}
 use Rattle.algorithms.proofs.Grown.{numbered-before, numbered-now, awaits-out, label-same, label-now}
 use Rattle.algorithms.proofs.Waiting.{Waits, InOrder, Left, in-order-grown}
@@ -184,7 +184,7 @@ LastFirst tie xs = Pairwise (λ u u′. tie u′ u) xs
 pub enqueue-adding : Adding bfs enqueue LastFirst
 enqueue-adding = record {
   one = enqueue-one;
-  anyhow = untied;
+  anyhow = pairwise-any;
   along = λ n r full f. (
     backward (keep f r),
     order-backward (keep f r) (order-listed n r full f),
@@ -192,7 +192,3 @@ enqueue-adding = record {
   );
   ordered = λ arc n tie w v rest new left order arranged. queue-ordered arc n tie w v rest left new (order .only) arranged;
 }
-  where
-    untied : (xs : List ℕ) → Pairwise (λ u u′. Unit {0}) xs
-    untied [] = tt
-    untied (x ∷ xs) = (λ u t. tt, untied xs)

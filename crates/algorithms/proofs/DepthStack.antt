@@ -17,7 +17,7 @@ use Rattle.searches.proofs.Reason.{Reason, outranks→reason, reason→outranks
 use Rattle.algorithms.specs.Lists.{among, keep, Pairwise, InAnyOrder, each}
 use Rattle.algorithms.specs.Algorithm.{numbered, awaits}
 use Rattle.algorithms.specs.DepthStack.{push}
-use Rattle.algorithms.proofs.Lists.{among-later, among-here, among-none, among-out, among-keep-out, among-keep-in, pairwise-map, pairwise-keep}
+use Rattle.algorithms.proofs.Lists.{among-later, among-here, among-none, among-out, among-keep-out, among-keep-in, pairwise-map, pairwise-any, pairwise-keep}
 use Rattle.algorithms.proofs.Lists.{Earlier, order-listed, listed-earlier}
 use Rattle.algorithms.proofs.Grown.{numbered-after, awaits-in, awaits-out, label-now}
 use Rattle.algorithms.proofs.Waiting.{Waits, InOrder, Left, in-order-grown}
@@ -200,11 +200,7 @@ module _ (arc : ℕ → ℕ → Bool) (n : ℕ) (tie : ℕ → ℕ → Type 0) (
 pub push-adding : Adding dfs push Pairwise
 push-adding = record {
   one = push-one;
-  anyhow = untied;
+  anyhow = pairwise-any;
   along = λ n r full f. (keep f r, order-listed n r full f, listed-earlier n r full f);
   ordered = λ arc n tie w v rest new left order arranged. stack-ordered arc n tie w v rest left new order arranged;
 }
-  where
-    untied : (xs : List ℕ) → Pairwise (λ u u′. Unit {0}) xs
-    untied [] = tt
-    untied (x ∷ xs) = (λ u t. tt, untied xs)

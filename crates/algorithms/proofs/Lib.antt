@@ -10,3 +10,4 @@ pub mod Waiting
 pub mod FrontFirst
 pub mod BreadthQueue
 pub mod DepthStack
+pub mod Algorithms

@@ -126,6 +126,10 @@ pairwise-map (x ∷ xs) h p = (
   pairwise-map xs (λ u u′ t t′. h u u′ (among-later x u xs t) (among-later x u′ xs t′)) (p .1),
 )
 
+pub pairwise-any : (xs : List ℕ) → Pairwise (λ u u′. Unit {0}) xs
+pairwise-any [] = tt
+pairwise-any (x ∷ xs) = (λ u t. tt, pairwise-any xs)
+
 module _ (rel : ℕ → ℕ → Type 0) where
   pub pairwise-keep : (f : ℕ → Bool) (xs : List ℕ) → Pairwise rel xs → Pairwise rel (keep f xs)
   unfolding keep

@@ -9,3 +9,4 @@ pub mod Digits
 pub mod LexBfsDigits
 pub mod LexDfsDigits
 pub mod MaximalNeighbourhood
+pub mod Printed
