@@ -15,11 +15,10 @@ use Rattle.searches.specs.Kind.{bfs}
 use Rattle.searches.specs.Label.{label, outranks}
 use Rattle.searches.specs.Violation.{excuses}
 use Rattle.searches.proofs.Reason.{Reason, outranks→reason, reason→outranks}
-use Rattle.algorithms.specs.Lists.{among, keep, Pairwise, InAnyOrder, each}
+use Rattle.algorithms.specs.Lists.{among, backward, Pairwise, InAnyOrder, each}
 use Rattle.algorithms.specs.Algorithm.{numbered, awaits}
 use Rattle.algorithms.specs.BreadthQueue.{enqueue}
-use Rattle.algorithms.proofs.Lists.{among-later, among-here, among-append-left, among-last, among-last-out, pairwise-map, pairwise-any, pairwise-last, pairwise-backward}
-use Rattle.algorithms.proofs.Lists.{Earlier, backward, order-backward, order-listed, listed-earlier}
+use Rattle.algorithms.proofs.Lists.{among-later, among-here, among-append-left, among-last, among-last-out, pairwise-map, pairwise-any, pairwise-last, pairwise-backward, order-backward}
 use Rattle.algorithms.proofs.Grown.{numbered-before, numbered-now, awaits-out, label-same, label-now}
 use Rattle.algorithms.proofs.Waiting.{Waits, InOrder, Left, in-order-grown}
 use Rattle.algorithms.proofs.FrontFirst.{AddsOne, each-out, each-in, Adding}
@@ -181,14 +180,11 @@ module _ (arc : ℕ → ℕ → Bool) (n : ℕ) (tie : ℕ → ℕ → Type 0) (
 abbrev pub LastFirst : (ℕ → ℕ → Type 0) → List ℕ → Type 0
 LastFirst tie xs = Pairwise (λ u u′. tie u′ u) xs
 
-pub enqueue-adding : Adding bfs enqueue LastFirst
+pub enqueue-adding : Adding bfs enqueue backward LastFirst
 enqueue-adding = record {
   one = enqueue-one;
   anyhow = pairwise-any;
-  along = λ n r full f. (
-    backward (keep f r),
-    order-backward (keep f r) (order-listed n r full f),
-    pairwise-backward (λ u u′. Earlier r u u′) (keep f r) (listed-earlier n r full f),
-  );
+  in-line = λ {n} {f} {xs} order. order-backward xs order;
+  arranges = pairwise-backward;
   ordered = λ arc n tie w v rest new left order arranged. queue-ordered arc n tie w v rest left new (order .only) arranged;
 }

@@ -18,7 +18,6 @@ use Rattle.algorithms.specs.Lists.{among, keep, Pairwise, InAnyOrder, ea
 use Rattle.algorithms.specs.Algorithm.{numbered, awaits}
 use Rattle.algorithms.specs.DepthStack.{push}
 use Rattle.algorithms.proofs.Lists.{among-later, among-here, among-none, among-out, among-keep-out, among-keep-in, pairwise-map, pairwise-any, pairwise-keep}
-use Rattle.algorithms.proofs.Lists.{Earlier, order-listed, listed-earlier}
 use Rattle.algorithms.proofs.Grown.{numbered-after, awaits-in, awaits-out, label-now}
 use Rattle.algorithms.proofs.Waiting.{Waits, InOrder, Left, in-order-grown}
 use Rattle.algorithms.proofs.FrontFirst.{AddsOne, each-out, Adding}
@@ -197,10 +196,11 @@ module _ (arc : ℕ → ℕ → Bool) (n : ℕ) (tie : ℕ → ℕ → Type 0) (
                 }
 
 -- line 5 begins at the end of the list: who comes first in the run stands first in it, and is pushed last
-pub push-adding : Adding dfs push Pairwise
+pub push-adding : Adding dfs push (λ xs. xs) Pairwise
 push-adding = record {
   one = push-one;
   anyhow = pairwise-any;
-  along = λ n r full f. (keep f r, order-listed n r full f, listed-earlier n r full f);
+  in-line = λ order. order;
+  arranges = λ tie xs p. p;
   ordered = λ arc n tie w v rest new left order arranged. stack-ordered arc n tie w v rest left new order arranged;
 }

@@ -1,5 +1,5 @@
 -- Algorithm 1: of the unnumbered vertices the set has just those to which a numbered one leads.
---   set-runs     produced exactly when run
+--   set-agrees     it agrees with generic search
 -- Assumes nothing.
 use mathlib.Core.Path.{_≡_, refl, sym, ap, _∙_, subst}
 use mathlib.Core.Bool.{Bool, not, _&&_, _||_}
@@ -14,14 +14,15 @@ use Rattle.bitset.proofs.Tests.{and-in, and-out, or-inl, or-inr, or-out, decide
 use Rattle.bitset.proofs.Below.{Some, any-out, any-at}
 use Rattle.searches.specs.Kind.{generic}
 use Rattle.searches.specs.Label.{label}
-use Rattle.searches.specs.Run.{offered, Run}
+use Rattle.searches.specs.Run.{offered}
 use Rattle.searches.specs.Violation.{excuses}
 use Rattle.searches.proofs.Reason.{outranks→reason}
 use Rattle.searches.proofs.Run.{offered-in, offered-out, restart-allowed, restart-only-then}
-use Rattle.algorithms.specs.Algorithm.{numbered, awaits, Produced}
+use Rattle.algorithms.specs.Algorithm.{numbered, awaits}
 use Rattle.algorithms.specs.GenericSet.{Candidate, inside, restart, added, SetStep, genericSet}
-use Rattle.algorithms.proofs.Grown.{none-numbered, numbered-before, numbered-now, awaits-in, awaits-out, reached-after, reached-now, reached-before}
-use Rattle.algorithms.proofs.Lift.{Sound, Complete, sound-run, complete-produced}
+use Rattle.algorithms.specs.Following.{free, isCandidate, setFollower}
+use Rattle.algorithms.proofs.Grown.{none-numbered, free-in, free-out, numbered-before, numbered-now, awaits-in, awaits-out, reached-after, reached-now, reached-before}
+use Rattle.algorithms.proofs.Lift.{Sound, sound-run, Complete, run-follows, Agrees}
 
 module _ (arc : ℕ → ℕ → Bool) (n : ℕ) where
   abbrev Reached-by : List ℕ → ℕ → Type 0
@@ -32,7 +33,7 @@ module _ (arc : ℕ → ℕ → Bool) (n : ℕ) where
 
   -- who is put in is reached now; who was in stays in, but for the vertex picked
   holds-on : (w : List ℕ) (set : ℕ → Bool) (v u : ℕ) → (T (numbered (w ++ v ∷ []) u) → ⊥) → ((v ≡ u → ⊥) → T (set u) ↔ Reached-by w u)
-      → T (added arc set w v u) ↔ Reached-by (w ++ v ∷ []) u
+      → T (added arc w set v u) ↔ Reached-by (w ++ v ∷ []) u
   unfolding added
   holds-on w set v u out before =
       (λ t. forth (or-out (set u && not (eqb v u)) (awaits arc w v u) t), λ s. back (reached-before w v arc u s))
@@ -96,18 +97,48 @@ module _ (arc : ℕ → ℕ → Bool) (n : ℕ) where
         (holds-on w set v u out (λ apart. holds u h (λ t. out (numbered-before w v u t))));
   }
 
-  set-complete : (r : List ℕ) → Complete generic arc n (genericSet arc n) Holds r
+  step-allowed : (w : List ℕ) (set : ℕ → Bool) (v : ℕ) → v < n → (T (numbered w v) → ⊥) → Candidate n set w v → T (isCandidate n w set v)
+  unfolding isCandidate
+  step-allowed w set v l out c = and-in (free n w v) (set v || not (anyBelow n waits)) (free-in n w v l out) (go c)
+    where
+      waits : ℕ → Bool
+      waits u = set u && not (numbered w u)
+
+      go : Candidate n set w v → T (set v || not (anyBelow n waits))
+      go (inside t) = or-inl (set v) (not (anyBelow n waits)) t
+      go (restart none) = or-inr (set v) (not (anyBelow n waits)) (not-T (anyBelow n waits) (λ t.
+          let u = any-out n waits t in
+          let both = and-out (set (u .at)) (not (numbered w (u .at))) (u .holds) in
+          none (u .at) (u .below) (both .0) (T-not (numbered w (u .at)) (both .1))))
+
+  allowed-step : (w : List ℕ) (set : ℕ → Bool) (v : ℕ) → T (isCandidate n w set v) → SetStep arc n w set v (added arc w set v)
+  unfolding isCandidate
+  allowed-step w set v t =
+      let both = and-out (free n w v) (set v || not (anyBelow n waits)) t in
+      let new = free-out n w v (both .0) in
+      record { vertex = new .0; unnumbered = new .1; candidate = go (or-out (set v) (not (anyBelow n waits)) (both .1)); becomes = refl }
+    where
+      waits : ℕ → Bool
+      waits u = set u && not (numbered w u)
+
+      go : T (set v) ⊎ T (not (anyBelow n waits)) → Candidate n set w v
+      go (inl t) = inside t
+      go (inr none) = restart (λ u l t out. T-not (anyBelow n waits) none (any-at n waits u l (and-in (set u) (not (numbered w u)) t (not-T (numbered w u) out))))
+
+  set-complete : (r : List ℕ) → Complete generic arc n (genericSet arc n) Holds (setFollower arc n) r
   set-complete r = record {
     opens = λ v along l.
-        let step : SetStep arc n [] (eqb v) v (added arc (eqb v) [] v) = record { vertex = l; unnumbered = none-numbered v; candidate = inside (eqb-refl v); becomes = refl } in
-        record { after = added arc (eqb v) [] v; step = step; held = holds-first v v (added arc (eqb v) [] v) l step };
+        let t = step-allowed [] (eqb v) v l (none-numbered v) (inside (eqb-refl v)) in
+        (t, holds-first v v (added arc [] (eqb v) v) l (allowed-step [] (eqb v) v t));
     goes = λ w set v along holds o.
         let offer = offered-out generic arc n w (length w) v o in
-        let step : SetStep arc n w set v (added arc set w v) =
-        record { vertex = offer .vertex; unnumbered = offer .unplaced; candidate = offered-candidate w set v holds o; becomes = refl } in
-        record { after = added arc set w v; step = step; held = set-sound .keeps w set v (added arc set w v) (along .inside) holds step };
+        let t = step-allowed w set v (offer .vertex) (offer .unplaced) (offered-candidate w set v holds o) in
+        (t, set-sound .keeps w set v (added arc w set v) (along .inside) holds (allowed-step w set v t));
   }
 
-  pub set-runs : (w : List ℕ) → Produced (genericSet arc n) n w ↔ Run generic arc n w
-  set-runs w =
-      (sound-run generic arc n (genericSet arc n) Holds set-sound w, complete-produced generic arc n (genericSet arc n) Holds w (set-complete w))
+  pub set-agrees : Agrees generic arc n (genericSet arc n) (setFollower arc n)
+  set-agrees = record {
+    sound = sound-run generic arc n (genericSet arc n) Holds set-sound;
+    followed = λ r run. run-follows generic arc n (genericSet arc n) Holds (setFollower arc n) r (set-complete r) run;
+    lawful = λ r full w set v t. allowed-step w set v t;
+  }

@@ -1,4 +1,5 @@
 -- One vertex more: what is numbered, and which positions are in a label, before and after v is numbered behind w.
+--   none-numbered; free-in, free-out                with nothing numbered, nobody is; free: an unnumbered vertex
 --   numbered-before, numbered-now, numbered-after   with v numbered, u is if it was before, or is v
 --   awaits-in, awaits-out                           awaits: v leads to u, which stays unnumbered
 --   label-same, label-now                           labels keep their positions; length w is a new one where v leads to u
@@ -10,7 +11,7 @@ use mathlib.Core.Logic.{_⊎_, inl, inr}
 use mathlib.Core.List.{List, [], _∷_, _++_}
 use Prim.Native.Nat.{ℕ, zero, suc, _≤_, _<_}
 use native.Mathlib.Omega.{arith}
-use lib.Dec.{T, not-T, T-not}
+use lib.Dec.{T, ltb, ltb→lt, lt→ltb, not-T, T-not}
 use lib.ListN.{length}
 use Rattle.bitset.proofs.Tests.{and-in, and-out, below-suc}
 use Rattle.bitset.proofs.Below.{Some}
@@ -18,9 +19,18 @@ use Rattle.searches.specs.Ordering.{at, placed}
 use Rattle.searches.specs.Label.{label}
 use Rattle.searches.proofs.Ordering.{placed-in, placed-out, length-grown, grown-agree, grown-last}
 use Rattle.algorithms.specs.Algorithm.{numbered, awaits}
+use Rattle.algorithms.specs.Following.{free}
 
 pub none-numbered : (u : ℕ) → T (numbered [] u) → ⊥
 none-numbered u t = let p = placed-out [] 0 u t in omega (arith, p .1)
+
+pub free-in : (n : ℕ) (w : List ℕ) (v : ℕ) → v < n → (T (numbered w v) → ⊥) → T (free n w v)
+unfolding free
+free-in n w v l out = and-in (ltb v n) (not (numbered w v)) (lt→ltb v n l) (not-T (numbered w v) out)
+
+pub free-out : (n : ℕ) (w : List ℕ) (v : ℕ) → T (free n w v) → (v < n) × (T (numbered w v) → ⊥)
+unfolding free
+free-out n w v t = let both = and-out (ltb v n) (not (numbered w v)) t in (ltb→lt v n (both .0), T-not (numbered w v) (both .1))
 
 module _ (w : List ℕ) (v : ℕ) where
   pub numbered-before : (u : ℕ) → T (numbered w u) → T (numbered (w ++ v ∷ []) u)

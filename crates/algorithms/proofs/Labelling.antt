@@ -1,25 +1,28 @@
 -- Algorithms 3, 5 and 6 at once: where labels can be read as sets of positions so that larger is ahead, what is produced are the runs.
 --   Reading s n ls means    `means k f l`: with k vertices numbered, the label l says the positions f; and what that has to keep to
---   labelling-runs          produced exactly when run
+--   labelling-agrees        then the algorithm agrees with the search
 -- Assumes nothing.
 use mathlib.Core.Path.{_≡_, refl, sym, ap, _∙_, subst}
-use mathlib.Core.Bool.{Bool, true, false, cond}
-use mathlib.Core.Logic.{_⊎_, inl, inr, _↔_}
+use mathlib.Core.Bool.{Bool, cond, not, _&&_}
+use mathlib.Core.Logic.{_⊎_, inl, inr}
 use mathlib.Core.List.{List, [], _∷_, _++_}
 use Prim.Native.Nat.{ℕ, zero, suc, _≤_, _<_}
 use native.Mathlib.Omega.{arith}
-use lib.Dec.{T, eqb, eqb→eq, eqb-refl}
+use lib.Dec.{T, eqb, eqb→eq, eqb-refl, not-T, T-not}
 use lib.ListN.{length}
-use Rattle.bitset.proofs.Tests.{decided, cond-yes, cond-no}
+use Rattle.bitset.specs.Below.{anyBelow}
+use Rattle.bitset.proofs.Tests.{and-in, and-out, decided, cond-yes, cond-no}
+use Rattle.bitset.proofs.Below.{any-out, any-at}
 use Rattle.searches.specs.Kind.{Search}
 use Rattle.searches.specs.Label.{label, outranks}
-use Rattle.searches.specs.Run.{offered, Run}
+use Rattle.searches.specs.Run.{offered}
 use Rattle.searches.proofs.Ordering.{length-grown}
 use Rattle.searches.proofs.Run.{offered-in, offered-out}
-use Rattle.algorithms.specs.Algorithm.{numbered, awaits, Produced}
+use Rattle.algorithms.specs.Algorithm.{numbered, awaits}
 use Rattle.algorithms.specs.Labelling.{Labels, firstLabels, relabelled, LabelStep, labelling}
-use Rattle.algorithms.proofs.Grown.{none-numbered, numbered-before, numbered-now, awaits-in, awaits-out, label-same, label-now}
-use Rattle.algorithms.proofs.Lift.{Sound, Along, Turn, Complete, sound-run, complete-produced}
+use Rattle.algorithms.specs.Following.{free, isLargest, labelFollower}
+use Rattle.algorithms.proofs.Grown.{none-numbered, free-in, free-out, numbered-before, numbered-now, awaits-in, awaits-out, label-same, label-now}
+use Rattle.algorithms.proofs.Lift.{Sound, sound-run, Complete, run-follows, Agrees}
 
 pub record Reading (s : Search) (n : ℕ) (ls : Labels) (means : ℕ → (ℕ → Bool) → ls .Label → Type 0) : Type 0 where
   -- what a label says, as vertices are numbered
@@ -133,18 +136,48 @@ module _ (s : Search) (arc : ℕ → ℕ → Bool) (n : ℕ) (ls : Labels) (mean
         becomes = refl;
       }
 
-  labelling-complete : (r : List ℕ) → Complete s arc n (labelling ls arc n) Said r
+  step-allowed : (w : List ℕ) (d : ℕ → ls .Label) (v : ℕ) (d′ : ℕ → ls .Label) → LabelStep ls arc n w d v d′ → T (isLargest ls n w d v)
+  unfolding isLargest
+  step-allowed w d v d′ step =
+      and-in (free n w v) (not (anyBelow n above)) (free-in n w v (step .vertex) (step .unnumbered)) (not-T (anyBelow n above) (λ t.
+      let u = any-out n above t in
+      let both = and-out (not (numbered w (u .at))) (ls .larger (d (u .at)) (d v)) (u .holds) in
+      step .largest (u .at) (u .below) (T-not (numbered w (u .at)) (both .0)) (both .1)))
+    where
+      above : ℕ → Bool
+      above u = not (numbered w u) && ls .larger (d u) (d v)
+
+  allowed-step : (w : List ℕ) (d : ℕ → ls .Label) (v : ℕ) → T (isLargest ls n w d v) → LabelStep ls arc n w d v (relabelled ls arc w v d)
+  unfolding isLargest
+  allowed-step w d v t =
+      let both = and-out (free n w v) (not (anyBelow n above)) t in
+      let new = free-out n w v (both .0) in
+      record {
+        vertex = new .0;
+        unnumbered = new .1;
+        largest = λ u l out larger.
+            T-not (anyBelow n above) (both .1)
+            (any-at n above u l (and-in (not (numbered w u)) (ls .larger (d u) (d v)) (not-T (numbered w u) out) larger));
+        becomes = refl;
+      }
+    where
+      above : ℕ → Bool
+      above u = not (numbered w u) && ls .larger (d u) (d v)
+
+  labelling-complete : (r : List ℕ) → Complete s arc n (labelling ls arc n) Said (labelFollower arc n ls) r
   labelling-complete r = record {
-    opens = λ v along l. record {
-      after = relabelled ls arc [] v (firstLabels ls v);
-      step = first-step v l;
-      held = said-first v v (relabelled ls arc [] v (firstLabels ls v)) l (first-step v l);
-    };
+    opens = λ v along l.
+        let d′ = relabelled ls arc [] v (firstLabels ls v) in
+        (step-allowed [] (firstLabels ls v) v d′ (first-step v l), said-first v v d′ l (first-step v l));
     goes = λ w d v along said o.
+        let d′ = relabelled ls arc w v d in
         let step = next-step w d v (along .inside) said o in
-        record { after = relabelled ls arc w v d; step = step; held = labelling-sound .keeps w d v (relabelled ls arc w v d) (along .inside) said step };
+        (step-allowed w d v d′ step, labelling-sound .keeps w d v d′ (along .inside) said step);
   }
 
-  pub labelling-runs : (w : List ℕ) → Produced (labelling ls arc n) n w ↔ Run s arc n w
-  labelling-runs w =
-      (sound-run s arc n (labelling ls arc n) Said labelling-sound w, complete-produced s arc n (labelling ls arc n) Said w (labelling-complete w))
+  pub labelling-agrees : Agrees s arc n (labelling ls arc n) (labelFollower arc n ls)
+  labelling-agrees = record {
+    sound = sound-run s arc n (labelling ls arc n) Said labelling-sound;
+    followed = λ r run. run-follows s arc n (labelling ls arc n) Said (labelFollower arc n ls) r (labelling-complete r) run;
+    lawful = λ r full w d v t. allowed-step w d v t;
+  }

@@ -1,35 +1,40 @@
 -- From single turns to orderings, for any algorithm and any search. Shown of an algorithm are two things, each with a fact about its data:
--- every turn picks an offered vertex (Sound), and some turn picks a run's next vertex (Complete).
+-- every turn picks an offered vertex (Sound), and along a run every turn is allowed (Complete).
 --   sound-run          then what it produces are runs
---   complete-produced  then all runs are produced
+--   run-follows        then it can be followed along every run
+--   follows-produced   and a full ordering along which it can be followed is produced
+--   Agrees, agrees-runs, agrees-follows   so it produces the runs, and those are the orderings along which it can be followed
 -- Assumes nothing.
 use mathlib.Core.Path.{_≡_, refl, sym, ap, _∙_, subst}
 use mathlib.Core.Bool.{Bool}
-use mathlib.Core.Logic.{_⊎_, inl, inr}
-use mathlib.Core.List.{List, [], _∷_, _++_}
+use mathlib.Core.Logic.{_↔_}
+use mathlib.Core.List.{List, [], _∷_, _++_, append-assoc, append-nil}
 use Prim.Native.Nat.{ℕ, zero, suc, _≤_, _<_}
 use native.Mathlib.Omega.{arith}
 use lib.Dec.{T}
-use lib.ListN.{length}
+use lib.ListN.{length, length-append, List·getD-append}
+use lib.Seq.{getD-append-seam}
+use Rattle.bitset.proofs.Tests.{and-in, and-out}
 use Rattle.searches.specs.Kind.{Search}
 use Rattle.searches.specs.Ordering.{at, IsOrdering, IsFullOrdering}
 use Rattle.searches.specs.Run.{offered, Reached, nothing, next, Run}
-use Rattle.searches.proofs.Ordering.{Agree, ordering-fits, length-grown, grown-agree, grown-last}
-use Rattle.searches.proofs.Run.{offered-out, all-offered-first, greedy-ordering, reached-greedy}
+use Rattle.searches.proofs.Ordering.{Agree, length-grown}
+use Rattle.searches.proofs.Run.{offered-out, offered-agree, all-offered-first, Greedy, greedy-ordering, reached-greedy}
 use Rattle.algorithms.specs.Algorithm.{Algorithm, Steps, begun, turned, Produced}
+use Rattle.algorithms.specs.Following.{Follower, follows}
 
 module _ (s : Search) (arc : ℕ → ℕ → Bool) (n : ℕ) where
   reached-ordering : {w : List ℕ} → Reached s arc n w → IsOrdering n w (length w)
   reached-ordering {w} r = greedy-ordering s arc n w (length w) (omega arith) (reached-greedy s arc n r)
 
-  -- an offered vertex leaves room: the w made so far are fewer than n
-  reached-room : {w : List ℕ} (v : ℕ) → Reached s arc n w → T (offered s arc n w (length w) v) → length w < n
-  reached-room {w} v r o =
-      let l = ordering-fits n (reached-ordering (next {w = w} v r o)) in
-      omega (arith, length-grown w v)
-
   pub run-full : {r : List ℕ} → Run s arc n r → IsFullOrdering n r
   run-full {r} run = record { ordering = subst (λ (k : ℕ). IsOrdering n r k) (run .full) (reached-ordering (run .reached)); full = run .full }
+
+  -- w is numbered, the first vertices of r, and v comes next in r
+  pub record Along (r w : List ℕ) (v : ℕ) : Type 0 where
+    pub so-far : Agree (length w) r w
+    pub then : at r (length w) ≡ v
+    pub inside : length w < n
 
   module _ (a : Algorithm) (holds : List ℕ → a .Data → Type 0) where
     -- the turns of a search keep `holds`, a fact about the data once a vertex is numbered, and pick offered vertices
@@ -37,22 +42,6 @@ module _ (s : Search) (arc : ℕ → ℕ → Bool) (n : ℕ) where
       pub opens : (x v : ℕ) (d′ : a .Data) → x < n → a .Step [] (a .start x) v d′ → (v < n) × holds (v ∷ []) d′
       pub offers : (w : List ℕ) (d : a .Data) (v : ℕ) (d′ : a .Data) → length w ≤ n → holds w d → a .Step w d v d′ → T (offered s arc n w (length w) v)
       pub keeps : (w : List ℕ) (d : a .Data) (v : ℕ) (d′ : a .Data) → length w < n → holds w d → a .Step w d v d′ → holds (w ++ v ∷ []) d′
-
-    -- w is numbered, the first vertices of r, and v comes next in r
-    pub record Along (r w : List ℕ) (v : ℕ) : Type 0 where
-      pub so-far : Agree (length w) r w
-      pub then : at r (length w) ≡ v
-      pub inside : length w < n
-
-    -- a turn that picks v and keeps `holds`
-    pub record Turn (w : List ℕ) (d : a .Data) (v : ℕ) : Type 0 where
-      pub after : a .Data
-      pub step : a .Step w d v after
-      pub held : holds (w ++ v ∷ []) after
-
-    pub record Complete (r : List ℕ) : Type 0 where
-      pub opens : (v : ℕ) → Along r [] v → v < n → Turn [] (a .start v) v
-      pub goes : (w : List ℕ) (d : a .Data) (v : ℕ) → Along r w v → holds w d → T (offered s arc n w (length w) v) → Turn w d v
 
     -- before the first turn the data is the start's
     abbrev Held : ℕ → List ℕ → a .Data → Type 0
@@ -82,45 +71,68 @@ module _ (s : Search) (arc : ℕ → ℕ → Bool) (n : ℕ) where
     pub sound-run : Sound → (w : List ℕ) → Produced a n w → Run s arc n w
     sound-run sound w p = record { reached = steps-reached sound (p .from) (p .vertex) (p .steps) (omega (arith, p .full)) .0; full = p .full }
 
-    module _ (r : List ℕ) (complete : Complete r) where
-      -- turns that number w
-      record Made (w : List ℕ) : Type 0 where
-        made : a .Data
-        steps : Steps a (at r 0) w made
-        held : Held (at r 0) w made
+    module _ (f : Follower a) (r : List ℕ) where
+      -- along r every turn is allowed that picks an offered vertex, and it keeps `holds`
+      pub record Complete : Type 0 where
+        pub opens : (v : ℕ) → Along r [] v → v < n → T (f .allowed [] (a .start v) v) × holds (v ∷ []) (f .after r [] (a .start v) v)
+        pub goes : (w : List ℕ) (d : a .Data) (v : ℕ) → Along r w v → holds w d → T (offered s arc n w (length w) v)
+            → T (f .allowed w d v) × holds (w ++ v ∷ []) (f .after r w d v)
 
-      made-on : (w : List ℕ) (v : ℕ) → Along r w v → T (offered s arc n w (length w) v) → Made w → Made (w ++ v ∷ [])
-      made-on w v along o m = let t = go w along o (m .made) (m .held) in record {
-        made = t .after;
-        steps = turned v (t .after) (m .steps) (t .step);
-        held = held-after (at r 0) w v (t .after) (t .held);
-      }
-        where
-          go : (w : List ℕ) → Along r w v → T (offered s arc n w (length w) v) → (d : a .Data) → Held (at r 0) w d → Turn w d v
-          go [] along o d h =
-              subst (λ (d : a .Data). Turn [] d v) (ap (λ (x : ℕ). a .start x) (sym (along .then)) ∙ sym h)
-              (complete .opens v along (offered-out s arc n [] 0 v o .vertex))
-          go (y ∷ w) along o d h = complete .goes (y ∷ w) d v along h o
+      module _ (complete : Complete) where
+        one-allowed : (w : List ℕ) (d : a .Data) (v : ℕ) → Along r w v → T (offered s arc n w (length w) v) → Held (at r 0) w d
+            → T (f .allowed w d v) × holds (w ++ v ∷ []) (f .after r w d v)
+        one-allowed [] d v along o h =
+            subst (λ (d : a .Data). T (f .allowed [] d v) × holds (v ∷ []) (f .after r [] d v)) (ap (λ (x : ℕ). a .start x) (sym (along .then)) ∙ sym h)
+            (complete .opens v along (offered-out s arc n [] 0 v o .vertex))
+        one-allowed (y ∷ w) d v along o h = complete .goes (y ∷ w) d v along h o
 
-      reached-made : {w : List ℕ} → Reached s arc n w → Agree (length w) r w → Made w
-      reached-made nothing same = record { made = a .start (at r 0); steps = begun; held = refl }
-      reached-made (next {w = w} v before o) same =
-          let e = length-grown w v in
-          let same-before : Agree (length w) r w = λ p l. same p (omega arith) ∙ grown-agree w v p l in
-          let along : Along r w v = record {
-            so-far = same-before;
-            then = same (length w) (omega arith) ∙ grown-last w v;
-            inside = reached-room v before o;
-          } in
-          made-on w v along o (reached-made before same-before)
+        all-allowed : Greedy s arc n r n → length r ≡ n → (w : List ℕ) (d : a .Data) (vs : List ℕ) → w ++ vs ≡ r → Held (at r 0) w d → T (follows a f r w d vs)
+        unfolding follows
+        all-allowed greedy full w d [] e h = tt
+        all-allowed greedy full w d (v ∷ vs) e h =
+            let so-far : Agree (length w) r w = λ p l. ap (λ (x : List ℕ). at x p) (sym e) ∙ List·getD-append w (v ∷ vs) 0 p l in
+            let then : at r (length w) ≡ v = ap (λ (x : List ℕ). at x (length w)) (sym e) ∙ getD-append-seam w v vs 0 in
+            let room : length w < n = omega (arith, length-append w (v ∷ vs), ap length e, full) in
+            let along : Along r w v = record { so-far = so-far; then = then; inside = room } in
+            let o = subst (λ (x : ℕ). T (offered s arc n w (length w) x)) then (offered-agree s arc n (length w) (at r (length w)) r w so-far (greedy (length w) room)) in
+            let now = one-allowed w d v along o h in
+            and-in (f .allowed w d v) (follows a f r (w ++ v ∷ []) (f .after r w d v) vs) (now .0)
+            (all-allowed greedy full (w ++ v ∷ []) (f .after r w d v) vs (append-assoc w (v ∷ []) vs ∙ e) (held-after (at r 0) w v (f .after r w d v) (now .1)))
 
-      pub complete-produced : Run s arc n r → Produced a n r
-      complete-produced run =
-          let m = reached-made (run .reached) (λ p l. refl) in
-          record {
-            from = at r 0;
-            vertex = λ l. run-full run .ordering .vertices 0 l;
-            data′ = m .made;
-            steps = m .steps;
-            full = run .full;
-          }
+        pub run-follows : Run s arc n r → T (follows a f r [] (a .start (at r 0)) r)
+        run-follows run =
+            all-allowed (subst (λ (k : ℕ). Greedy s arc n r k) (run .full) (reached-greedy s arc n (run .reached))) (run .full) [] (a .start (at r 0)) r refl refl
+
+-- ---- what can be followed is produced
+
+module _ (a : Algorithm) (f : Follower a) (r : List ℕ) (steps : (w : List ℕ) (d : a .Data) (v : ℕ) → T (f .allowed w d v) → a .Step w d v (f .after r w d v)) where
+  follows-steps : (x : ℕ) (w : List ℕ) (d : a .Data) (vs : List ℕ) → Steps a x w d → T (follows a f r w d vs) → (d′ : a .Data) × Steps a x (w ++ vs) d′
+  unfolding follows
+  follows-steps x w d [] so-far t = (d, subst (λ (u : List ℕ). Steps a x u d) (sym (append-nil w)) so-far)
+  follows-steps x w d (v ∷ vs) so-far t =
+      let both = and-out (f .allowed w d v) (follows a f r (w ++ v ∷ []) (f .after r w d v) vs) t in
+      let on = follows-steps x (w ++ v ∷ []) (f .after r w d v) vs (turned v (f .after r w d v) so-far (steps w d v (both .0))) (both .1) in
+      (on .0, subst (λ (u : List ℕ). Steps a x u (on .0)) (append-assoc w (v ∷ []) vs) (on .1))
+
+  pub follows-produced : (n : ℕ) → IsFullOrdering n r → T (follows a f r [] (a .start (at r 0)) r) → Produced a n r
+  follows-produced n full t =
+      let made = follows-steps (at r 0) [] (a .start (at r 0)) r begun t in
+      record { from = at r 0; vertex = λ l. full .ordering .vertices 0 l; data′ = made .0; steps = made .1; full = full .full }
+
+-- ---- both at once
+
+-- what is shown of each algorithm
+pub record Agrees (s : Search) (arc : ℕ → ℕ → Bool) (n : ℕ) (a : Algorithm) (f : Follower a) : Type 0 where
+  pub sound : (w : List ℕ) → Produced a n w → Run s arc n w
+  pub followed : (r : List ℕ) → Run s arc n r → T (follows a f r [] (a .start (at r 0)) r)
+  pub lawful : (r : List ℕ) → IsFullOrdering n r → (w : List ℕ) (d : a .Data) (v : ℕ) → T (f .allowed w d v) → a .Step w d v (f .after r w d v)
+
+module _ {s : Search} {arc : ℕ → ℕ → Bool} {n : ℕ} {a : Algorithm} {f : Follower a} (agrees : Agrees s arc n a f) (w : List ℕ) where
+  pub agrees-runs : Produced a n w ↔ Run s arc n w
+  agrees-runs = (
+    agrees .sound w,
+    λ run. let full = run-full s arc n run in follows-produced a f w (agrees .lawful w full) n full (agrees .followed w run),
+  )
+
+  pub agrees-follows : IsFullOrdering n w → T (follows a f w [] (a .start (at w 0)) w) ↔ Produced a n w
+  agrees-follows full = (follows-produced a f w (agrees .lawful w full) n full, λ p. agrees .followed w (agrees .sound w p))

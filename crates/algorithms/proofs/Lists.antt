@@ -2,22 +2,26 @@
 --   among-*              which entries a list has that was put together, kept in part or turned round
 --   among-position, position-among   an entry stands at some position
 --   pairwise-*           what holds between its entries
---   backward xs          xs from its other end; order-backward: in any order from there too
+--   order-backward       a list in any order is so from its other end too
 --   Earlier r u u′       u comes before u′ in the ordering r
 --   order-listed, listed-earlier   the entries of a full ordering at which a test holds, kept in the ordering's order
+--   fullList-in, fullList-out      fullList: a full ordering
 -- Assumes nothing.
 use mathlib.Core.Path.{_≡_, refl, sym, subst}
-use mathlib.Core.Bool.{Bool, true, false, cond, not, _||_}
+use mathlib.Core.Bool.{Bool, true, false, cond, not, _&&_, _||_}
 use mathlib.Core.Logic.{_⊎_, inl, inr}
 use mathlib.Core.List.{List, [], _∷_, _++_}
-use Prim.Native.Nat.{ℕ, zero, suc, _<_}
+use Prim.Native.Nat.{ℕ, zero, suc, _≤_, _<_}
 use native.Mathlib.Omega.{arith}
-use lib.Dec.{T, eqb, eqb→eq, eqb-refl}
+use lib.Dec.{T, eqb, eqb→eq, eqb-refl, not-T, T-not}
 use lib.ListN.{length}
-use Rattle.bitset.proofs.Tests.{or-inl, or-inr, or-out, decided, three-ways}
+use Rattle.bitset.proofs.Tests.{and-in, and-out, or-inl, or-inr, or-out, below-or, three-ways}
 use Rattle.searches.specs.Ordering.{at, placed, IsFullOrdering}
+use Rattle.searches.specs.Answer.{vertexOutside, repeated}
 use Rattle.searches.proofs.Ordering.{placed-in, placed-out, all-placed}
-use Rattle.algorithms.specs.Lists.{among, keep, Pairwise, InAnyOrder}
+use Rattle.searches.proofs.Refusals.{vertexOutside-in, vertexOutside-out, repeated-in, repeated-out}
+use Rattle.algorithms.specs.Following.{fullList}
+use Rattle.algorithms.specs.Lists.{among, keep, backward, Pairwise, InAnyOrder}
 
 -- ---- entries
 
@@ -160,10 +164,6 @@ module _ (rel : ℕ → ℕ → Type 0) where
 
 -- ---- from the other end
 
-unfoldable pub backward : List ℕ → List ℕ
-backward [] = []
-backward (x ∷ xs) = backward xs ++ x ∷ []
-
 pub among-backward-out : (xs : List ℕ) (u : ℕ) → T (among (backward xs) u) → T (among xs u)
 unfolding backward
 among-backward-out [] u t = t
@@ -227,3 +227,32 @@ module _ (n : ℕ) (r : List ℕ) (full : IsFullOrdering n r) where
 
   pub listed-earlier : (f : ℕ → Bool) → Pairwise (Earlier r) (keep f r)
   listed-earlier f = pairwise-keep (Earlier r) f r (pairwise-by-position (Earlier r) r earlier-by-position)
+
+-- ---- a list that has each vertex once, as a test
+
+pub fullList-out : (n : ℕ) (r : List ℕ) → T (fullList n r) → IsFullOrdering n r
+unfolding fullList
+fullList-out n r t =
+    let both = and-out (eqb (length r) n) (not (vertexOutside n r n) && not (repeated r n)) t in
+    let rest = and-out (not (vertexOutside n r n)) (not (repeated r n)) (both .1) in
+    let e : length r ≡ n = eqb→eq (length r) n (both .0) in
+    record {
+      ordering = record {
+        long = omega arith;
+        vertices = λ p l. vertex p l (below-or (at r p) n) (T-not (vertexOutside n r n) (rest .0));
+        distinct = λ p q l h same. T-not (repeated r n) (rest .1) (repeated-in r n p q l h same);
+      };
+      full = e;
+    }
+  where
+    vertex : (p : ℕ) → p < n → (at r p < n) ⊎ (n ≤ at r p) → (T (vertexOutside n r n) → ⊥) → at r p < n
+    vertex p l (inl h) none = h
+    vertex p l (inr h) none = absurd (none (vertexOutside-in r n n p l h))
+
+pub fullList-in : (n : ℕ) (r : List ℕ) → IsFullOrdering n r → T (fullList n r)
+unfolding fullList
+fullList-in n r full =
+    and-in (eqb (length r) n) (not (vertexOutside n r n) && not (repeated r n)) (subst (λ (x : ℕ). T (eqb (length r) x)) (full .full) (eqb-refl (length r)))
+    (and-in (not (vertexOutside n r n)) (not (repeated r n))
+    (not-T (vertexOutside n r n) (λ t. let x = vertexOutside-out r n n t in let l = full .ordering .vertices (x .0) (x .1) in omega (arith, x .2)))
+    (not-T (repeated r n) (λ t. let x = repeated-out r n t in full .ordering .distinct (x .0) (x .1) (x .2) (x .3) (x .4))))

@@ -4,7 +4,7 @@
 --   InOrder w k u u′            u may stand before u′
 --   Waiting w xs, Left w v xs   xs lists those who wait, in order; all but v
 --   taken-offered, taken-left   the vertex taken is offered, and who else waits is left
---   taken-next                  where the list keeps to a run's order, the run's next vertex can be taken
+--   next-front                  where the list keeps to a run's order, the run's next vertex is at the front
 --   waiting-on                  the list after a turn, where it has who was left and who was added, in order
 -- Assumes nothing.
 use mathlib.Core.Path.{_≡_, refl, sym, _∙_, subst}
@@ -29,8 +29,9 @@ use Rattle.searches.proofs.Run.{offered-in, offered-out, restart-allowed, resta
 use Rattle.algorithms.specs.Lists.{among, Pairwise, InAnyOrder}
 use Rattle.algorithms.specs.Algorithm.{numbered, awaits}
 use Rattle.algorithms.specs.FrontFirst.{Takes, front, restart}
+use Rattle.algorithms.specs.Following.{isFront}
 use Rattle.algorithms.proofs.Lists.{among-here, among-later, among-none, among-out, pairwise-map, Earlier}
-use Rattle.algorithms.proofs.Grown.{numbered-before, numbered-now, numbered-after, awaits-in, awaits-out, reached-after, reached-now, reached-before}
+use Rattle.algorithms.proofs.Grown.{free-in, numbered-before, numbered-now, numbered-after, awaits-in, awaits-out, reached-after, reached-now, reached-before}
 
 module _ (s : Search) (arc : ℕ → ℕ → Bool) (n : ℕ) where
   pub record Waits (w : List ℕ) (u : ℕ) : Type 0 where
@@ -168,6 +169,7 @@ module _ (s : Search) (arc : ℕ → ℕ → Bool) (n : ℕ) where
         go (inr _) (inr none) = absurd (restart-only-then s arc n w (length w) v (λ p l t. none (any-at (length w) (label arc w v) p l t)) o
             x (me .vertex) (me .unnumbered) (me .reached .at) (me .reached .below) (me .reached .holds))
 
-    pub taken-next : (xs : List ℕ) → Waiting (Earlier r) w xs → T (offered s arc n w (length w) v) → (rest : List ℕ) × Takes n w xs v rest
-    taken-next [] waiting o = let offer = offered-out s arc n w (length w) v o in ([], restart v (offer .vertex) (offer .unplaced))
-    taken-next (x ∷ rest) waiting o = (rest, subst (λ (y : ℕ). Takes n w (x ∷ rest) y rest) (first-next x rest waiting o) (front x rest))
+    pub next-front : (xs : List ℕ) → Waiting (Earlier r) w xs → T (offered s arc n w (length w) v) → T (isFront n w xs v)
+    unfolding isFront
+    next-front [] waiting o = let offer = offered-out s arc n w (length w) v o in free-in n w v (offer .vertex) (offer .unplaced)
+    next-front (x ∷ rest) waiting o = subst (λ (y : ℕ). T (eqb x y)) (first-next x rest waiting o) (eqb-refl x)

@@ -10,3 +10,4 @@ pub mod LexBfsDigits
 pub mod LexDfsDigits
 pub mod MaximalNeighbourhood
 pub mod Printed
+pub mod Following

@@ -3,11 +3,12 @@
 --   keep f xs               the entries of xs at which f holds, in their order
 --   Pairwise rel xs         rel holds between each entry and each later one
 --   InAnyOrder n f xs       xs has each vertex below n at which f holds once, and nothing else
+--   backward xs             xs from its other end
 --   each add d xs           d after every entry of xs was added, the last one first
 use Prim.Native.Nat.{ℕ, _<_}
 use mathlib.Core.Path.{_≡_}
 use mathlib.Core.Bool.{Bool, false, cond, _||_}
-use mathlib.Core.List.{List, [], _∷_}
+use mathlib.Core.List.{List, [], _∷_, _++_}
 use lib.Dec.{T, eqb}
 
 unfoldable pub among : List ℕ → ℕ → Bool
@@ -17,6 +18,10 @@ among (x ∷ xs) u = let rest = among xs u in eqb x u || rest
 unfoldable pub keep : (ℕ → Bool) → List ℕ → List ℕ
 keep f [] = []
 keep f (x ∷ xs) = let rest = keep f xs in cond (f x) (x ∷ rest) rest
+
+unfoldable pub backward : List ℕ → List ℕ
+backward [] = []
+backward (x ∷ xs) = backward xs ++ x ∷ []
 
 abbrev pub Pairwise : (ℕ → ℕ → Type 0) → List ℕ → Type 0
 Pairwise rel [] = Unit {0}
