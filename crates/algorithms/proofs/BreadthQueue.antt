@@ -1,8 +1,9 @@
 -- Algorithm 2: a queue is in BFS' order, smallest position first, and a turn keeps it so.
---   enqueue-adding     enqueue keeps the queue in order
+--   enqueue-there, enqueue-new   what enqueue makes of the queue
+--   enqueue-adding               it keeps the queue in order
 -- Assumes nothing.
 use mathlib.Core.Path.{_≡_, refl, sym, subst}
-use mathlib.Core.Bool.{Bool, cond}
+use mathlib.Core.Bool.{Bool}
 use mathlib.Core.Logic.{_⊎_, inl, inr}
 use mathlib.Core.List.{List, [], _∷_, _++_}
 use Prim.Native.Nat.{ℕ, suc, _<_}
@@ -15,13 +16,22 @@ use Rattle.searches.specs.Kind.{bfs}
 use Rattle.searches.specs.Label.{label, outranks}
 use Rattle.searches.specs.Violation.{excuses}
 use Rattle.searches.proofs.Reason.{Reason, outranks→reason, reason→outranks}
-use Rattle.algorithms.specs.Lists.{among, backward, Pairwise, InAnyOrder, each}
-use Rattle.algorithms.specs.Algorithm.{numbered, awaits}
+use Rattle.algorithms.specs.Lists.{among, backward, Pairwise, each}
+use Rattle.algorithms.specs.Algorithm.{awaits}
 use Rattle.algorithms.specs.BreadthQueue.{enqueue}
 use Rattle.algorithms.proofs.Lists.{among-later, among-here, among-append-left, among-last, among-last-out, pairwise-map, pairwise-any, pairwise-last, pairwise-backward, order-backward}
 use Rattle.algorithms.proofs.Grown.{numbered-before, numbered-now, awaits-out, label-same, label-now}
-use Rattle.algorithms.proofs.Waiting.{Waits, InOrder, Left, in-order-grown}
+use Rattle.algorithms.proofs.Waiting.{InOrder, Left, in-order-grown}
 use Rattle.algorithms.proofs.FrontFirst.{AddsOne, each-out, each-in, Adding}
+
+-- a vertex that is in the queue is not put in again, and any other goes to its end
+enqueue-there : (queue : List ℕ) (u : ℕ) → T (among queue u) → enqueue queue u ≡ queue
+unfolding enqueue
+enqueue-there queue u t = cond-yes (among queue u) queue (queue ++ u ∷ []) t
+
+enqueue-new : (queue : List ℕ) (u : ℕ) → (T (among queue u) → ⊥) → enqueue queue u ≡ queue ++ u ∷ []
+unfolding enqueue
+enqueue-new queue u out = cond-no (among queue u) queue (queue ++ u ∷ []) out
 
 -- ---- one position more
 
@@ -75,25 +85,26 @@ module _ (k : ℕ) (c b : ℕ → Bool) where
 -- ---- what enqueue adds
 
 enqueue-one : AddsOne enqueue
-unfolding enqueue
 enqueue-one = record {
   out = λ xs x u t. out xs x u (decided (among xs x)) t;
   old = λ xs x u t. old xs x u (decided (among xs x)) t;
   new = λ xs x u e. new xs x u e (decided (among xs x));
 }
   where
-    out : (xs : List ℕ) (x u : ℕ) → T (among xs x) ⊎ (T (among xs x) → ⊥) → T (among (cond (among xs x) xs (xs ++ x ∷ [])) u) → T (among xs u) ⊎ (x ≡ u)
-    out xs x u (inl y) t = inl (subst (λ (zs : List ℕ). T (among zs u)) (cond-yes (among xs x) xs (xs ++ x ∷ []) y) t)
-    out xs x u (inr n) t = among-last-out xs x u (subst (λ (zs : List ℕ). T (among zs u)) (cond-no (among xs x) xs (xs ++ x ∷ []) n) t)
+    moved : {xs ys : List ℕ} (u : ℕ) → xs ≡ ys → T (among xs u) → T (among ys u)
+    moved u e = subst (λ (zs : List ℕ). T (among zs u)) e
 
-    old : (xs : List ℕ) (x u : ℕ) → T (among xs x) ⊎ (T (among xs x) → ⊥) → T (among xs u) → T (among (cond (among xs x) xs (xs ++ x ∷ [])) u)
-    old xs x u (inl y) t = subst (λ (zs : List ℕ). T (among zs u)) (sym (cond-yes (among xs x) xs (xs ++ x ∷ []) y)) t
-    old xs x u (inr n) t = subst (λ (zs : List ℕ). T (among zs u)) (sym (cond-no (among xs x) xs (xs ++ x ∷ []) n)) (among-append-left xs (x ∷ []) u t)
+    out : (xs : List ℕ) (x u : ℕ) → T (among xs x) ⊎ (T (among xs x) → ⊥) → T (among (enqueue xs x) u) → T (among xs u) ⊎ (x ≡ u)
+    out xs x u (inl there) t = inl (moved u (enqueue-there xs x there) t)
+    out xs x u (inr other) t = among-last-out xs x u (moved u (enqueue-new xs x other) t)
 
-    new : (xs : List ℕ) (x u : ℕ) → x ≡ u → T (among xs x) ⊎ (T (among xs x) → ⊥) → T (among (cond (among xs x) xs (xs ++ x ∷ [])) u)
-    new xs x u e (inl y) =
-        subst (λ (zs : List ℕ). T (among zs u)) (sym (cond-yes (among xs x) xs (xs ++ x ∷ []) y)) (subst (λ (z : ℕ). T (among xs z)) e y)
-    new xs x u e (inr n) = subst (λ (zs : List ℕ). T (among zs u)) (sym (cond-no (among xs x) xs (xs ++ x ∷ []) n)) (among-last xs x u e)
+    old : (xs : List ℕ) (x u : ℕ) → T (among xs x) ⊎ (T (among xs x) → ⊥) → T (among xs u) → T (among (enqueue xs x) u)
+    old xs x u (inl there) t = moved u (sym (enqueue-there xs x there)) t
+    old xs x u (inr other) t = moved u (sym (enqueue-new xs x other)) (among-append-left xs (x ∷ []) u t)
+
+    new : (xs : List ℕ) (x u : ℕ) → x ≡ u → T (among xs x) ⊎ (T (among xs x) → ⊥) → T (among (enqueue xs x) u)
+    new xs x u e (inl there) = moved u (sym (enqueue-there xs x there)) (subst (λ (z : ℕ). T (among xs z)) e there)
+    new xs x u e (inr other) = moved u (sym (enqueue-new xs x other)) (among-last xs x u e)
 
 -- ---- a turn
 
@@ -146,7 +157,7 @@ module _ (arc : ℕ → ℕ → Bool) (n : ℕ) (tie : ℕ → ℕ → Type 0) (
 
   queue-ordered : (xs : List ℕ) → ((u : ℕ) → T (among xs u) → (u < n) × T (awaits arc w v u)) → Pairwise (λ u u′. tie u′ u) xs
       → Pairwise OrderNow (each enqueue rest xs)
-  unfolding each enqueue
+  unfolding each
   queue-ordered [] waits arranged = pairwise-map rest old-old (left .ordered)
   queue-ordered (x ∷ xs) waits arranged = go (decided (among q x)) (queue-ordered xs (λ u t. waits u (among-later x u xs t)) (arranged .1))
     where
@@ -170,11 +181,9 @@ module _ (arc : ℕ → ℕ → Bool) (n : ℕ) (tie : ℕ → ℕ → Type 0) (
           split (inr other) (inl r) = absurd (other r)
           split (inr other) (inr r) = new-new u x apart (awaits-out w v arc u (waits u (among-later x u xs r) .1) .0) none (arranged .0 u r)
 
-      go : T (among q x) ⊎ (T (among q x) → ⊥) → Pairwise OrderNow q → Pairwise OrderNow (cond (among q x) q (q ++ x ∷ []))
-      go (inl y) done = subst (λ (zs : List ℕ). Pairwise OrderNow zs) (sym (cond-yes (among q x) q (q ++ x ∷ []) y)) done
-      go (inr out) done =
-          subst (λ (zs : List ℕ). Pairwise OrderNow zs) (sym (cond-no (among q x) q (q ++ x ∷ []) out))
-          (pairwise-last OrderNow q x done (before out))
+      go : T (among q x) ⊎ (T (among q x) → ⊥) → Pairwise OrderNow q → Pairwise OrderNow (enqueue q x)
+      go (inl there) done = subst (λ (zs : List ℕ). Pairwise OrderNow zs) (sym (enqueue-there q x there)) done
+      go (inr out) done = subst (λ (zs : List ℕ). Pairwise OrderNow zs) (sym (enqueue-new q x out)) (pairwise-last OrderNow q x done (before out))
 
 -- line 5 begins at the end of the list: who comes first in the run stands last in it
 abbrev pub LastFirst : (ℕ → ℕ → Type 0) → List ℕ → Type 0

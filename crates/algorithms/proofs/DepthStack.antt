@@ -1,5 +1,6 @@
 -- Algorithm 4: a stack is in DFS' order, largest position on top, and a turn keeps it so.
---   push-adding     push keeps the stack in order
+--   push-top        what push makes of the stack
+--   push-adding     it keeps the stack in order
 -- Assumes nothing.
 use mathlib.Core.Path.{_≡_, refl, sym, subst}
 use mathlib.Core.Bool.{Bool, not}
@@ -19,8 +20,38 @@ use Rattle.algorithms.specs.Algorithm.{numbered, awaits}
 use Rattle.algorithms.specs.DepthStack.{push}
 use Rattle.algorithms.proofs.Lists.{among-later, among-here, among-none, among-out, among-keep-out, among-keep-in, pairwise-map, pairwise-any, pairwise-keep}
 use Rattle.algorithms.proofs.Grown.{numbered-after, awaits-in, awaits-out, label-now}
-use Rattle.algorithms.proofs.Waiting.{Waits, InOrder, Left, in-order-grown}
+use Rattle.algorithms.proofs.Waiting.{InOrder, Left, in-order-grown}
 use Rattle.algorithms.proofs.FrontFirst.{AddsOne, each-out, Adding}
+
+-- ---- what push adds
+
+-- a vertex that is pushed stands on top, and nowhere else
+push-top : (stack : List ℕ) (u : ℕ) → push stack u ≡ u ∷ keep (λ x. not (eqb u x)) stack
+unfolding push
+push-top stack u = refl
+
+push-out : (xs : List ℕ) (x u : ℕ) → T (among (keep (λ y. not (eqb x y)) xs) u) → T (among xs u) × (x ≡ u → ⊥)
+push-out xs x u t =
+    let both = among-keep-out (λ y. not (eqb x y)) xs u t in
+    (both .0, λ e. T-not (eqb x u) (both .1) (subst (λ (y : ℕ). T (eqb x y)) e (eqb-refl x)))
+
+push-one : AddsOne push
+push-one = record {
+  out = λ xs x u t. out xs x u (among-out x u (others x xs) (subst (λ (zs : List ℕ). T (among zs u)) (push-top xs x) t));
+  old = λ xs x u t. subst (λ (zs : List ℕ). T (among zs u)) (sym (push-top xs x)) (old xs x u t (decided (eqb x u)));
+  new = λ xs x u e. subst (λ (zs : List ℕ). T (among zs u)) (sym (push-top xs x)) (among-here x u (others x xs) e);
+}
+  where
+    others : ℕ → List ℕ → List ℕ
+    others x xs = keep (λ y. not (eqb x y)) xs
+
+    out : (xs : List ℕ) (x u : ℕ) → (x ≡ u) ⊎ T (among (others x xs) u) → T (among xs u) ⊎ (x ≡ u)
+    out xs x u (inl e) = inr e
+    out xs x u (inr t) = inl (push-out xs x u t .0)
+
+    old : (xs : List ℕ) (x u : ℕ) → T (among xs u) → T (eqb x u) ⊎ (T (eqb x u) → ⊥) → T (among (x ∷ others x xs) u)
+    old xs x u t (inl e) = among-here x u (others x xs) (eqb→eq x u e)
+    old xs x u t (inr apart) = among-later x u (others x xs) (among-keep-in (λ y. not (eqb x y)) xs u t (not-T (eqb x u) apart))
 
 -- ---- one position more
 
@@ -74,33 +105,6 @@ module _ (k : ℕ) (c b : ℕ → Bool) where
       go r d p x (inl l) = r .unexcused d l p x
       go r d p x (inr e) = none (subst (λ (q : ℕ). T (b q)) e p)
 
--- ---- what push adds
-
-others : (x u : ℕ) → (x ≡ u → ⊥) → T (not (eqb x u))
-others x u apart = not-T (eqb x u) (λ t. apart (eqb→eq x u t))
-
-push-out : (xs : List ℕ) (x u : ℕ) → T (among (keep (λ y. not (eqb x y)) xs) u) → T (among xs u) × (x ≡ u → ⊥)
-push-out xs x u t =
-    let both = among-keep-out (λ y. not (eqb x y)) xs u t in
-    (both .0, λ e. T-not (eqb x u) (both .1) (subst (λ (y : ℕ). T (eqb x y)) e (eqb-refl x)))
-
-push-one : AddsOne push
-unfolding push
-push-one = record {
-  out = λ xs x u t. out xs x u (among-out x u (keep (λ y. not (eqb x y)) xs) t);
-  old = λ xs x u t. old xs x u t (decided (eqb x u));
-  new = λ xs x u e. among-here x u (keep (λ y. not (eqb x y)) xs) e;
-}
-  where
-    out : (xs : List ℕ) (x u : ℕ) → (x ≡ u) ⊎ T (among (keep (λ y. not (eqb x y)) xs) u) → T (among xs u) ⊎ (x ≡ u)
-    out xs x u (inl e) = inr e
-    out xs x u (inr t) = inl (push-out xs x u t .0)
-
-    old : (xs : List ℕ) (x u : ℕ) → T (among xs u) → T (eqb x u) ⊎ (T (eqb x u) → ⊥) → T (among (x ∷ keep (λ y. not (eqb x y)) xs) u)
-    old xs x u t (inl e) = among-here x u (keep (λ y. not (eqb x y)) xs) (eqb→eq x u e)
-    old xs x u t (inr apart) =
-        among-later x u (keep (λ y. not (eqb x y)) xs) (among-keep-in (λ y. not (eqb x y)) xs u t (not-T (eqb x u) apart))
-
 -- ---- a turn
 
 module _ (arc : ℕ → ℕ → Bool) (n : ℕ) (tie : ℕ → ℕ → Type 0) (w : List ℕ) (v : ℕ) (rest : List ℕ) (left : Left dfs arc n tie w v rest) where
@@ -126,9 +130,11 @@ module _ (arc : ℕ → ℕ → Bool) (n : ℕ) (tie : ℕ → ℕ → Type 0) (
       go y other none (inr r) = none r
 
   stacked : (xs : List ℕ) → Pairwise tie xs → Pairwise (Stacked xs) (each push rest xs)
-  unfolding each push
+  unfolding each
   stacked [] arranged = pairwise-map rest (λ u u′ t t′ order. (order .apart, below (among-none u) (among-none u′) order)) (left .ordered)
-  stacked (x ∷ xs) arranged = (top, pairwise-map kept lower (pairwise-keep (Stacked xs) (λ y. not (eqb x y)) st (stacked xs (arranged .1))))
+  stacked (x ∷ xs) arranged =
+      subst (λ (zs : List ℕ). Pairwise (Stacked (x ∷ xs)) zs) (sym (push-top st x))
+      (top, pairwise-map kept lower (pairwise-keep (Stacked xs) (λ y. not (eqb x y)) st (stacked xs (arranged .1))))
     where
       st : List ℕ
       st = each push rest xs

@@ -8,7 +8,7 @@ use mathlib.Core.Path.{_≡_, refl, sym, subst}
 use mathlib.Core.Bool.{Bool, not, _&&_}
 use mathlib.Core.Logic.{_⊎_, inl, inr, _↔_}
 use mathlib.Core.List.{List, [], _∷_, _++_}
-use Prim.Native.Nat.{ℕ, suc, _-_, _≤_, _<_}
+use Prim.Native.Nat.{ℕ, suc, _≤_, _<_}
 use native.Mathlib.Omega.{arith}
 use lib.Dec.{T, ltb→lt, lt→ltb, not-T, T-not}
 use Rattle.bitset.proofs.Tests.{and-in, and-out, decided, below-suc}
@@ -18,7 +18,7 @@ use Rattle.searches.specs.Violation.{excuses}
 use Rattle.searches.proofs.Reason.{Reason, outranks→reason, reason→outranks, earlier, later}
 use Rattle.algorithms.specs.Lists.{among}
 use Rattle.algorithms.specs.Digits.{lexLarger, digitLabels}
-use Rattle.algorithms.specs.LexBfsDigits.{appended}
+use Rattle.algorithms.specs.LexBfsDigits.{digitOf, appended}
 use Rattle.algorithms.specs.LexDfsDigits.{prepended}
 use Rattle.algorithms.proofs.Lists.{among-here, among-later, among-none, among-out, among-append-left, among-last, among-last-out, pairwise-last}
 use Rattle.algorithms.proofs.Digits.{Descending, LargestDifference, larger-out, larger-in, single-itself}
@@ -135,7 +135,7 @@ module _ (s : Search) (n first : ℕ) (put : ℕ → List ℕ → List ℕ) (dig
 
 module _ (n : ℕ) where
   abbrev pub from-n : ℕ → ℕ
-  from-n p = n - suc p
+  from-n p = digitOf n (suc p)
 
   from-n-falls : (k : ℕ) → k ≤ n → Falling k from-n earlier
   from-n-falls k l = record {
@@ -155,7 +155,7 @@ module _ (n : ℕ) where
   lexBfs-rule k c b = (reason→outranks k c b lexBfs, outranks→reason k c b lexBfs)
 
   pub appended-reading : Reading lexBfs n (appended n) (Spells from-n)
-  appended-reading = digits-reading lexBfs n (suc n) (λ i digits. digits ++ (n - i) ∷ []) from-n earlier from-n-falls spells-appended lexBfs-rule
+  appended-reading = digits-reading lexBfs n (suc n) (λ i digits. digits ++ digitOf n i ∷ []) from-n earlier from-n-falls spells-appended lexBfs-rule
 
 -- ---- algorithm 5
 

@@ -15,7 +15,7 @@ use Rattle.searches.specs.Kind.{Search}
 use Rattle.searches.specs.Ordering.{IsFullOrdering}
 use Rattle.algorithms.specs.Lists.{among, keep, Pairwise, InAnyOrder, each}
 use Rattle.algorithms.specs.Algorithm.{awaits}
-use Rattle.algorithms.specs.FrontFirst.{Takes, front, restart, FrontStep, frontFirst}
+use Rattle.algorithms.specs.FrontFirst.{Takes, front, restart, frontFirst}
 use Rattle.algorithms.specs.Following.{isFront, behindFront, frontFollower}
 use Rattle.algorithms.proofs.Lists.{among-here, among-later, among-none, among-out, Earlier, order-listed, listed-earlier}
 use Rattle.algorithms.proofs.Grown.{free-out}

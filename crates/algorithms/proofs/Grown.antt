@@ -5,17 +5,17 @@
 --   label-same, label-now                           labels keep their positions; length w is a new one where v leads to u
 --   reached-after, reached-now, reached-before      who has a position in the label
 -- Assumes nothing.
-use mathlib.Core.Path.{_≡_, refl, sym, ap, _∙_, subst}
+use mathlib.Core.Path.{_≡_, sym, ap, _∙_, subst}
 use mathlib.Core.Bool.{Bool, not}
 use mathlib.Core.Logic.{_⊎_, inl, inr}
 use mathlib.Core.List.{List, [], _∷_, _++_}
-use Prim.Native.Nat.{ℕ, zero, suc, _≤_, _<_}
+use Prim.Native.Nat.{ℕ, _<_}
 use native.Mathlib.Omega.{arith}
 use lib.Dec.{T, ltb, ltb→lt, lt→ltb, not-T, T-not}
 use lib.ListN.{length}
 use Rattle.bitset.proofs.Tests.{and-in, and-out, below-suc}
 use Rattle.bitset.proofs.Below.{Some}
-use Rattle.searches.specs.Ordering.{at, placed}
+use Rattle.searches.specs.Ordering.{at}
 use Rattle.searches.specs.Label.{label}
 use Rattle.searches.proofs.Ordering.{placed-in, placed-out, length-grown, grown-agree, grown-last}
 use Rattle.algorithms.specs.Algorithm.{numbered, awaits}

@@ -2,7 +2,7 @@
 --   Numbers k f set         the numbers of the set are those of the positions f below k
 --   neighbour-reading       so algorithm 6 goes by MNS' rule
 -- Assumes nothing.
-use mathlib.Core.Path.{_≡_, refl, sym, subst}
+use mathlib.Core.Path.{_≡_, sym, subst}
 use mathlib.Core.Bool.{Bool, not, _&&_, _||_}
 use mathlib.Core.Logic.{_⊎_, inl, inr}
 use Prim.Native.Nat.{ℕ, suc, _≤_, _<_}

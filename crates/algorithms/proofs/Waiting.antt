@@ -7,7 +7,7 @@
 --   next-front                  where the list keeps to a run's order, the run's next vertex is at the front
 --   waiting-on                  the list after a turn, where it has who was left and who was added, in order
 -- Assumes nothing.
-use mathlib.Core.Path.{_≡_, refl, sym, _∙_, subst}
+use mathlib.Core.Path.{_≡_, refl, sym, subst}
 use mathlib.Core.Bool.{Bool}
 use mathlib.Core.Logic.{_⊎_, inl, inr}
 use mathlib.Core.List.{List, [], _∷_, _++_}
@@ -19,7 +19,7 @@ use Rattle.bitset.specs.Below.{anyBelow}
 use Rattle.bitset.proofs.Tests.{decided}
 use Rattle.bitset.proofs.Below.{Some, any-out, any-at}
 use Rattle.searches.specs.Kind.{Search}
-use Rattle.searches.specs.Ordering.{at, placed}
+use Rattle.searches.specs.Ordering.{at}
 use Rattle.searches.specs.Label.{label, outranks}
 use Rattle.searches.specs.Run.{offered}
 use Rattle.searches.proofs.Reason.{outranks→reason}
@@ -30,7 +30,7 @@ use Rattle.algorithms.specs.Lists.{among, Pairwise, InAnyOrder}
 use Rattle.algorithms.specs.Algorithm.{numbered, awaits}
 use Rattle.algorithms.specs.FrontFirst.{Takes, front, restart}
 use Rattle.algorithms.specs.Following.{isFront}
-use Rattle.algorithms.proofs.Lists.{among-here, among-later, among-none, among-out, pairwise-map, Earlier}
+use Rattle.algorithms.proofs.Lists.{among-here, among-later, among-none, among-out, Earlier}
 use Rattle.algorithms.proofs.Grown.{free-in, numbered-before, numbered-now, numbered-after, awaits-in, awaits-out, reached-after, reached-now, reached-before}
 
 module _ (s : Search) (arc : ℕ → ℕ → Bool) (n : ℕ) where

@@ -8,11 +8,10 @@
 -- The vertex at position p, counted from 0, has the number i = p + 1.
 -- Document 001 takes graphs in one piece. Each algorithm's file says how it goes on behind a piece, by 01's rule: when no unnumbered vertex is
 -- led to by a numbered one, any may come next.
-use Prim.Native.Nat.{ℕ, zero, suc, _<_}
+use Prim.Native.Nat.{ℕ, zero, _<_}
 use mathlib.Core.Path.{_≡_}
 use mathlib.Core.Bool.{Bool, not, _&&_}
 use mathlib.Core.List.{List, [], _∷_, _++_}
-use lib.Dec.{T}
 use lib.ListN.{length}
 use Rattle.searches.specs.Ordering.{placed}
 
