@@ -117,7 +117,7 @@ module _ (a : Algorithm) (f : Follower a) (r : List ℕ) (steps : (w : List ℕ)
   pub follows-produced : (n : ℕ) → IsFullOrdering n r → T (follows a f r [] (a .start (at r 0)) r) → Produced a n r
   follows-produced n full t =
       let made = follows-steps (at r 0) [] (a .start (at r 0)) r begun t in
-      record { from = at r 0; vertex = λ l. full .ordering .vertices 0 l; data′ = made .0; steps = made .1; full = full .full }
+      record { from = at r 0; vertex = λ l. full .ordering .vertices 0 l; afterwards = made .0; steps = made .1; full = full .full }
 
 -- ---- both at once
 

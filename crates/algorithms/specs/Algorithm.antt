@@ -35,6 +35,6 @@ module _ (a : Algorithm) where
   pub record Produced (n : ℕ) (w : List ℕ) : Type 0 where
     pub from : ℕ
     pub vertex : zero < n → from < n
-    pub data′ : a .Data
-    pub steps : Steps from w data′
+    pub afterwards : a .Data
+    pub steps : Steps from w afterwards
     pub full : length w ≡ n

@@ -4,6 +4,7 @@
 --   follows a f r w d vs        with w numbered and data d, the vertices vs may be picked one after the other
 --   free n w v                  v is an unnumbered vertex
 --   isCandidate, isFront, isLargest   v may be picked: of the set, of the list, by its label
+--   behindFront xs              xs without its front
 --   setFollower, frontFollower, labelFollower   of algorithm 1, of 2 and 4, of 3, 5 and 6
 --   follower s arc n            of the algorithm that is printed for s
 --   fullList n r                r has each vertex once

@@ -4,6 +4,7 @@
 -- Restart: where the set has no unnumbered vertex, any unnumbered vertex is put in and picked.
 --   Candidate n set w v     v may be picked
 --   added arc w set v       the set after v was picked
+--   SetStep arc n           one turn
 --   genericSet arc n        the algorithm
 use Prim.Native.Nat.{ℕ, _<_}
 use mathlib.Core.Path.{_≡_}

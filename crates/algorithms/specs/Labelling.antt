@@ -1,12 +1,12 @@
 -- What algorithms 3, 5 and 6 of document 001 share. Every vertex has a label, at first a blank one, the start vertex another (lines 1, 2).
--- Each turn an unnumbered vertex is picked than whose label no unnumbered vertex has a larger one (4); it gets the next number i (5), and
+-- Each turn an unnumbered vertex is picked such that no unnumbered vertex has a larger label (4); it gets the next number i (5), and
 -- i goes into the label of every unnumbered vertex to which it leads (6, 7). The order in line 6 changes nothing. Which of several such
 -- vertices is picked is left open.
 -- Restart: no rule is needed. Where no unnumbered vertex is led to, all labels are blank, none is larger, and any may be picked.
 --   Labels                    a type of labels, the blank one, the start vertex's, a number put into one, and which of two is larger
 --   firstLabels ls s          the labels of a search from s
 --   relabelled ls arc w v d   the labels after v got its number
---   LabelStep                 one turn
+--   LabelStep ls arc n        one turn
 --   labelling ls arc n        the algorithm
 use Prim.Native.Nat.{ℕ, suc, _<_}
 use mathlib.Core.Path.{_≡_}

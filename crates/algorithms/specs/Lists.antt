@@ -1,9 +1,9 @@
 -- Lists of vertices as queues and stacks, and vertices taken in an order that is left open.
 --   among xs u              u is an entry of xs
 --   keep f xs               the entries of xs at which f holds, in their order
+--   backward xs             xs from its other end
 --   Pairwise rel xs         rel holds between each entry and each later one
 --   InAnyOrder n f xs       xs has each vertex below n at which f holds once, and nothing else
---   backward xs             xs from its other end
 --   each add d xs           d after every entry of xs was added, the last one first
 use Prim.Native.Nat.{ℕ, _<_}
 use mathlib.Core.Path.{_≡_}

@@ -1,6 +1,7 @@
 -- Algorithm 6 of document 001, maximal neighbourhood search. Of the algorithm the copy at hand has the heading and the sentences around it:
 -- each turn picks a vertex whose numbered neighbours are a maximal set under inclusion. A label is that set, as the numbers of these
 -- neighbours. The start vertex is picked first because it begins with 0, which is nobody's number, as in line 2 of algorithm 5.
+--   neighbourSets n               its labels: sets of numbers from 0 to n
 --   maximalNeighbourhood arc n    the algorithm
 use Prim.Native.Nat.{ℕ, suc}
 use mathlib.Core.Bool.{Bool, false, not, _&&_, _||_}
