@@ -19,8 +19,9 @@ use Rattle.searches.proofs.Reason.{Reason, outranks→reason, reason→outranks
 use Rattle.algorithms.specs.Lists.{among, backward, Pairwise, each}
 use Rattle.algorithms.specs.Algorithm.{awaits}
 use Rattle.algorithms.specs.BreadthQueue.{enqueue}
-use Rattle.algorithms.proofs.Lists.{among-later, among-here, among-append-left, among-last, among-last-out, pairwise-map, pairwise-any, pairwise-last, pairwise-backward, order-backward}
-use Rattle.algorithms.proofs.Grown.{numbered-before, numbered-now, awaits-out, label-same, label-now}
+use Rattle.algorithms.proofs.Lists.{among-later, among-here, among-append-left, among-last, among-last-out}
+use Rattle.algorithms.proofs.Lists.{pairwise-map, pairwise-any, pairwise-last, pairwise-backward, order-backward}
+use Rattle.algorithms.proofs.Grown.{ahead-already, numbered-before, numbered-now, awaits-out, label-same, label-now}
 use Rattle.algorithms.proofs.Waiting.{InOrder, Left, in-order-grown}
 use Rattle.algorithms.proofs.FrontFirst.{AddsOne, each-out, each-in, Adding}
 
@@ -42,13 +43,7 @@ module _ (k : ℕ) (c b : ℕ → Bool) where
   not-overtaken some behind t = let r = outranks→reason (suc k) c b bfs t in go r (below-suc k (r .position) (r .below))
     where
       go : (r : Reason (excuses bfs) (suc k) c b) → (r .position < k) ⊎ (r .position ≡ k) → ⊥
-      go r (inl l) = behind (reason→outranks k c b bfs (record {
-        position = r .position;
-        below = l;
-        ours = r .ours;
-        theirs = r .theirs;
-        unexcused = λ d h. r .unexcused d (omega arith);
-      }))
+      go r (inl l) = behind (ahead-already bfs k c b r l)
       go r (inr e) = r .unexcused (some .at) (omega (arith, some .below)) (some .holds) (lt→ltb (some .at) (r .position) (omega (arith, some .below)))
 
   stays-ahead : T (outranks bfs k c b) → T (outranks bfs (suc k) c b)

@@ -19,7 +19,7 @@ use Rattle.algorithms.specs.Lists.{among, keep, Pairwise, InAnyOrder, ea
 use Rattle.algorithms.specs.Algorithm.{numbered, awaits}
 use Rattle.algorithms.specs.DepthStack.{push}
 use Rattle.algorithms.proofs.Lists.{among-later, among-here, among-none, among-out, among-keep-out, among-keep-in, pairwise-map, pairwise-any, pairwise-keep}
-use Rattle.algorithms.proofs.Grown.{numbered-after, awaits-in, awaits-out, label-now}
+use Rattle.algorithms.proofs.Grown.{ahead-already, numbered-after, awaits-in, awaits-out, label-now}
 use Rattle.algorithms.proofs.Waiting.{InOrder, Left, in-order-grown}
 use Rattle.algorithms.proofs.FrontFirst.{AddsOne, each-out, Adding}
 
@@ -81,13 +81,7 @@ module _ (k : ℕ) (c b : ℕ → Bool) where
   still-behind none behind t = let r = outranks→reason (suc k) c b dfs t in go r (below-suc k (r .position) (r .below))
     where
       go : (r : Reason (excuses dfs) (suc k) c b) → (r .position < k) ⊎ (r .position ≡ k) → ⊥
-      go r (inl l) = behind (reason→outranks k c b dfs (record {
-        position = r .position;
-        below = l;
-        ours = r .ours;
-        theirs = r .theirs;
-        unexcused = λ d h. r .unexcused d (omega arith);
-      }))
+      go r (inl l) = behind (ahead-already dfs k c b r l)
       go r (inr e) = none (subst (λ (p : ℕ). T (c p)) e (r .ours))
 
   still-ahead : (T (b k) → ⊥) → T (outranks dfs k c b) → T (outranks dfs (suc k) c b)

@@ -89,7 +89,8 @@ module _ (s : Search) (add : List ℕ → ℕ → List ℕ) (line : List ℕ →
     offers = λ w xs v xs′ l waiting step. taken-offered s arc n untied w xs v (step .rest) waiting (step .takes);
     keeps = λ w xs v xs′ l waiting step.
         subst (λ (ys : List ℕ). Waiting s arc n untied (w ++ v ∷ []) ys) (sym (step .becomes))
-        (waiting-added untied w v (step .rest) (step .neighbours) (taken-left s arc n untied w xs v (step .rest) waiting (step .takes)) (step .in-any-order) (adding .anyhow (step .neighbours)));
+        (waiting-added untied w v (step .rest) (step .neighbours) (taken-left s arc n untied w xs v (step .rest) waiting (step .takes))
+        (step .in-any-order) (adding .anyhow (step .neighbours)));
   }
 
   only-front : (v : ℕ) → T (isFront n [] (v ∷ []) v)

@@ -88,7 +88,8 @@ unfolding keep
 among-keep-out f [] u t = absurd (among-none u t)
 among-keep-out f (x ∷ xs) u t = go (f x) (λ y. y) t (among-keep-out f xs u)
   where
-    go : (b : Bool) → (T b → T (f x)) → T (among (cond b (x ∷ keep f xs) (keep f xs)) u) → (T (among (keep f xs) u) → T (among xs u) × T (f u)) → T (among (x ∷ xs) u) × T (f u)
+    go : (b : Bool) → (T b → T (f x)) → T (among (cond b (x ∷ keep f xs) (keep f xs)) u)
+        → (T (among (keep f xs) u) → T (among xs u) × T (f u)) → T (among (x ∷ xs) u) × T (f u)
     go true holds t rest = split (among-out x u (keep f xs) t)
       where
         split : (x ≡ u) ⊎ T (among (keep f xs) u) → T (among (x ∷ xs) u) × T (f u)

@@ -86,7 +86,8 @@ neighbour-reading n = record {
   ahead-larger = λ k c b x y l cs bs t.
       properly (within k b c) (within k c b) (within (suc n) y x) (within (suc n) x y) (inside-in n k l b c y x bs cs) (inside-out n k l c b x y cs bs) t;
   first-larger =
-      and-in (within (suc n) blank first) (not (within (suc n) first blank)) (within-in (suc n) blank first (λ p l t. absurd t)) (not-T (within (suc n) first blank) first-outside);
+      and-in (within (suc n) blank first) (not (within (suc n) first blank)) (within-in (suc n) blank first (λ p l t. absurd t))
+      (not-T (within (suc n) first blank) first-outside);
   blank-smaller = λ t. first-outside (and-out (within (suc n) first blank) (not (within (suc n) blank first)) t .0);
   first-itself = λ t.
       T-not (within (suc n) first first) (and-out (within (suc n) first first) (not (within (suc n) first first)) t .1) (within-in (suc n) first first (λ p l x. x));
