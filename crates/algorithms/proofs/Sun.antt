@@ -4,6 +4,7 @@
 --   rows-right           every entry of the table is right
 --   after-1-2            which orderings that begin with 1, 2 are produced by algorithms 2, 3, 5 and 6
 --   how-many             how many of the orderings that begin with 1 each algorithm produces
+--   two-pieces           beside it a graph in two pieces: the second is started when the first is done, and no earlier
 --   labels-of-5-and-4    the labels that section 2.3 gives
 --   queue-turn, stack-turn   a turn on the queue and on the stack
 -- Assumes nothing.
@@ -177,6 +178,16 @@ unfolding searches those in-every-order put-anywhere from-0 sun joined edges
     producible fullList follows free isCandidate isFront behindFront isLargest anyBelow allBelow within placed vertexOutside repeated
     among keep backward each awaits added enqueue push firstLabels relabelled lexLarger
 how-many = refl
+
+-- ---- a graph in two pieces
+
+-- three vertices, 1 and 2 joined: 3 comes before both or behind both, never between them
+two-pieces : map (λ s. map (λ w. producible s (joined ((1, 2) ∷ [])) 3 (from-0 w)) ((1 ∷ 2 ∷ 3 ∷ []) ∷ (3 ∷ 1 ∷ 2 ∷ []) ∷ (1 ∷ 3 ∷ 2 ∷ []) ∷ [])) searches
+    ≡ map (λ s. true ∷ true ∷ false ∷ []) searches
+unfolding searches from-0 joined
+    producible fullList follows free isCandidate isFront behindFront isLargest anyBelow allBelow within placed vertexOutside repeated
+    among keep backward each awaits added enqueue push firstLabels relabelled lexLarger
+two-pieces = refl
 
 -- ---- the data on the way
 
