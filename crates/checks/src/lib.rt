@@ -1,5 +1,7 @@
 // What is refused: tests on lent lists, in their order, each on every row or entry before the following one.
 // No function here alters a list.
+pub mod number;
+
 ghost use mathlib.Core.Path.{_≡_};
 ghost use Prim.Native.Nat.{ℕ, _≤_, _<_};
 ghost use lib.ListN.{length};
@@ -11,31 +13,6 @@ ghost use Rattle.checks.specs.Row.{oneWayAt, refusedAt};
 use searches::Kind;
 use searches::Outcome;
 use searches::Refusal;
-
-// The number of a refusal.
-pub fn number(refusal: Refusal) -> u32
-    ensures { λ r. ⌜ r ≡ answer.number refusal ⌝ }
-{
-    match refusal {
-        Refusal::UnknownKind => 1,
-        Refusal::TooManyVertices => 2,
-        Refusal::ArcOutOfRange => 3,
-        Refusal::SelfLoop => 4,
-        Refusal::OneWayArc => 5,
-        Refusal::OrderingTooLong => 6,
-        Refusal::TieBreakLength => 7,
-        Refusal::VertexOutOfRange => 8,
-        Refusal::RepeatedVertex => 9,
-        Refusal::OutputTooShort => 10,
-        Refusal::MalformedSheet => 11,
-        Refusal::StartFails => 12,
-        Refusal::MalformedTraversal => 13,
-        Refusal::AllPlaced => 14,
-        Refusal::AlreadyPlaced => 15,
-        Refusal::NotOffered => 16,
-        Refusal::NothingToTakeBack => 17,
-    }
-}
 
 // Whether `u` has an arc to a vertex that has none back. Only the arcs of `u` are looked at.
 fn one_way_from(rows: &[u64], u: usize) -> bool

@@ -15,7 +15,7 @@ pub fn code_of(judgement: Judgement) -> u32
             + 65536 * (v.a.0 as u32)
             + 256 * (v.b.0 as u32)
             + (v.c.0 as u32),
-        Judgement::Refused(refusal) => checks::number(refusal),
+        Judgement::Refused(refusal) => checks::number::number(refusal),
     }
 }
 
@@ -25,6 +25,6 @@ pub fn number_of(outcome: Outcome) -> u32
 {
     match outcome {
         Outcome::Done => 0,
-        Outcome::Refused(refusal) => checks::number(refusal),
+        Outcome::Refused(refusal) => checks::number::number(refusal),
     }
 }

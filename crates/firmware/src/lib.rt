@@ -15,7 +15,7 @@ pub extern "C" fn vezhanip_judge(kind: u8, plan: &[u8], walk: &[u8]) -> u32
 {
     let checked = plan::refusal(kind, plan);
     if let Outcome::Refused(refusal) = checked {
-        return checks::number(refusal);
+        return checks::number::number(refusal);
     }
     let mut rows = [0u64; 64];
     plan::decode(plan, &mut rows);
@@ -40,7 +40,7 @@ pub extern "C" fn vezhanip_carry_on(
 {
     let checked = plan::refusal(kind, plan);
     if let Outcome::Refused(refusal) = checked {
-        return checks::number(refusal);
+        return checks::number::number(refusal);
     }
     let mut rows = [0u64; 64];
     plan::decode(plan, &mut rows);

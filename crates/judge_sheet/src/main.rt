@@ -6,6 +6,6 @@ fn main() {
     let mut input = [0u8; 18478];
     let length = io::read_full(STDIN_FILENO, &mut input);
     let mut output = [0u8; 126];
-    let count = sheet::judge::judge(&input[..length], &mut output);
+    let count = judgement::judge(&input[..length], &mut output);
     io::write_all(STDOUT_FILENO, &output[..count]);
 }

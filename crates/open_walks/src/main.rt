@@ -17,7 +17,7 @@ const TAKE_BACK: u8 = 254;
 fn answer(outcome: Outcome) -> u64 {
     match outcome {
         Outcome::Done => 0,
-        Outcome::Refused(refusal) => checks::number(refusal) as u64,
+        Outcome::Refused(refusal) => checks::number::number(refusal) as u64,
     }
 }
 

@@ -1,6 +1,5 @@
 pub mod LineByLine
 pub mod Sheets
-pub mod Writing
 pub mod Joined
 pub mod Accepted
 pub mod Listed

@@ -4,6 +4,7 @@
 --   ReadsBack rows w    the sheet of the rows and the walk w is not refused, and they are what is read of it
 --   reads-back          so it is for every valid graph and every walk of it
 --   only-sheet          a sheet that is not refused is the sheet of what is read of it
+--   kinds-judged        what is printed for a kind is the verdict of judge, never a refusal
 -- Assumes nothing.
 use Prim.Native.Nat.{ℕ, _*_, _/_, _%_, _^_, _≤_, _<_}
 use mathlib.Core.Path.{_≡_, sym, ap, _∙_, subst}
@@ -11,9 +12,11 @@ use mathlib.Core.List.{List}
 use mathlib.Core.Option.{none}
 use native.Mathlib.Omega.{arith}
 use lib.ListN.{length}
-use Rattle.searches.specs.Ordering.{at, IsOrdering}
-use Rattle.searches.specs.Answer.{openTests, judgeTests, Accepts}
-use Rattle.searches.proofs.Answers.{accepted-ordering}
+use Rattle.searches.specs.Kind.{searchOf}
+use Rattle.searches.specs.Ordering.{arcs, at, IsOrdering}
+use Rattle.searches.specs.Violation.{judge}
+use Rattle.searches.specs.Answer.{openTests, judgeTests, Accepts, judgeAnswer}
+use Rattle.searches.proofs.Answers.{accepted-ordering, ordering-accepted, judge-accepted}
 use Rattle.sheet.specs.Sheet.{pointsOf, linksOf, placesOf, fromOf, toOf, placeAt, tabulate, walkOf, rowsOf, readAnswer}
 use Rattle.sheet.specs.Written.{isLink, linkList, sheetOf}
 use Rattle.sheet.proofs.Sheets.{tabulate-length, tabulate-at}
@@ -35,6 +38,18 @@ pub valid-read : (b : List ℕ) → readAnswer b ≡ none → ValidRead b
 valid-read b e =
     let x = accepted-out b e in
     record { graph = valid-rows b x; points = length-read b x; words = words-read b x; walk = x .walk }
+
+-- the verdict that is printed for a kind
+pub kinds-judged : (b : List ℕ) → readAnswer b ≡ none → (kind : ℕ) → kind ≤ 5
+    → judgeAnswer kind (rowsOf b) (walkOf b) ≡ judge (searchOf kind) (arcs (rowsOf b)) (length (rowsOf b)) (walkOf b) (length (walkOf b))
+unfolding walkOf
+kinds-judged b e kind l =
+    let x = valid-read b e in
+    let ordering : IsOrdering (length (rowsOf b)) (walkOf b) (length (walkOf b)) =
+    subst (λ (n : ℕ). IsOrdering n (walkOf b) (length (walkOf b))) (sym (x .points))
+    (subst (λ (k : ℕ). IsOrdering (pointsOf b) (walkOf b) k) (sym (tabulate-length (placeAt b) (placesOf b))) (x .walk))
+    in
+    judge-accepted kind (rowsOf b) (walkOf b) (ordering-accepted kind (rowsOf b) (walkOf b) (x .graph kind l) ordering)
 
 -- ---- what is written is read back
 

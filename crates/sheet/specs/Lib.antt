@@ -1,4 +1,3 @@
 pub mod Sheet
 pub mod Lines
-pub mod Judged
 pub mod Written

@@ -4,7 +4,7 @@ use Prim.Native.Nat.{_≤_}
 use mathlib.Core.Path.{sym}
 use lib.ListN.{length}
 use lib.Seq.{length-take-le}
-use Rattle.sheet.proofs.Writing.{judgement-fits}
+use Rattle.judgement.proofs.Writing.{judgement-fits}
 use borrow.Author.Needs.{needs}
 use Rattle.judge_sheet.proofs.main.Statement.{statement}
 use Rattle.judge_sheet.proofs.main.Tie as tie

@@ -1,4 +1,4 @@
--- `sheet::judge::judge` meets its contract: a list without room stays; a refusal is its number; else the lines of the six kinds.
+-- `judgement::judge` meets its contract: a list without room stays; a refusal is its number; else the lines of the six kinds.
 -- Assumes nothing.
 use mathlib.Core.Path.{_≡_, sym, ap, ap₂, _∙_}
 use mathlib.Core.Bool.{Bool, cond}
@@ -12,15 +12,15 @@ use borrow.Author.Tests.{lt-ltb, le-ltb}
 use lib.ListN.{length, take}
 use lib.Seq.{sets, length-take-le}
 use Rattle.searches.specs.Answer.{refusalOf, number}
 use Rattle.sheet.specs.declared.read.Held.{Held}
 use Rattle.fields.specs.Field.{field}
 use Rattle.sheet.specs.Sheet.{pointsOf, linksOf, placesOf, rowsOf, walkOf, readAnswer}
 use Rattle.sheet.specs.Lines.{heldUnless, heldIn}
 use Rattle.fields.specs.Field.{fields, line}
-use Rattle.sheet.specs.Judged.{judgedLines, judgedUnless, judgement, judgementIn, judgementLength}
+use Rattle.judgement.specs.Judged.{judgedLines, judgedUnless, judgement, judgementIn, judgementLength}
 use Rattle.sheet.proofs.Sheets.{bytes-length, joined-length, points-few, places-few, walk-read}
-use Rattle.sheet.proofs.judge.judge.Statement.{statement}
-use Rattle.sheet.proofs.judge.judge.Tie as tie
+use Rattle.judgement.proofs.judge.Statement.{statement}
+use Rattle.judgement.proofs.judge.Tie as tie
 
 -- a list with room gets the judgement
 with-room : (b out : List ℕ) → 126 ≤ length out → (sets out 0 (judgement b) ≡ judgementIn b out) × (length (judgement b) ≡ judgementLength b out)

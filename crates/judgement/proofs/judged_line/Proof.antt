@@ -1,4 +1,4 @@
--- `sheet::judge::judged_line` meets its contract: each verdict has its line.
+-- `judgement::judged_line` meets its contract: each verdict has its line.
 -- Assumes nothing.
 use mathlib.Core.Path.{sym, ap, _∙_}
 use mathlib.Core.List.{[], _∷_}
@@ -10,10 +10,10 @@ use Rattle.searches.specs.declared.Judgement.{Judgement}
 use Rattle.searches.specs.Answer.{verdictOf, number}
 use Rattle.fields.specs.Field.{field}
 use Rattle.fields.specs.Field.{fields, line}
-use Rattle.sheet.specs.Judged.{judgedLine}
+use Rattle.judgement.specs.Judged.{judgedLine}
 use borrow.Author.Needs.{needs}
-use Rattle.sheet.proofs.judge.judged_line.Statement.{statement}
-use Rattle.sheet.proofs.judge.judged_line.Tie as tie
+use Rattle.judgement.proofs.judged_line.Statement.{statement}
+use Rattle.judgement.proofs.judged_line.Tie as tie
 
 enum-told : tie.Need-enum-told
 enum-told c = search needs

@@ -15,8 +15,8 @@ use Rattle.searches.specs.Violation.{Verdict, passes, fails, refused}
 use Rattle.searches.specs.Answer.{judgeAnswer}
 use Rattle.fields.specs.Field.{field, fields, line}
 use Rattle.fields.proofs.Writing.{sets-append}
-use Rattle.sheet.specs.Judged.{judgedLine, judgedLines, judgedUnless, judgement, judgementIn, judgementLength}
+use Rattle.judgement.specs.Judged.{judgedLine, judgedLines, judgedUnless, judgement, judgementIn, judgementLength}
 use Rattle.sheet.specs.Sheet.{rowsOf, walkOf, readAnswer}
 
 -- ---- the lines of the kinds
 

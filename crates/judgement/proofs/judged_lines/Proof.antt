@@ -1,4 +1,4 @@
--- `sheet::judge::judged_lines` meets its contract: the lines of the kinds so far are written.
+-- `judgement::judged_lines` meets its contract: the lines of the kinds so far are written.
 -- Assumes nothing.
 use mathlib.Core.Path.{_≡_, sym, ap, _∙_}
 use Prim.Native.Nat.{ℕ, _-_}
@@ -7,10 +7,10 @@ use native.Mathlib.Omega.{arith}
 use borrow.Author.Needs.{needs}
 use lib.ListN.{length}
 use lib.Seq.{sets, length-sets}
-use Rattle.sheet.specs.Judged.{judgedLines}
-use Rattle.sheet.proofs.Writing.{Judging, judging-start, judging-room, judging-next}
-use Rattle.sheet.proofs.judge.judged_lines.Statement.{statement}
-use Rattle.sheet.proofs.judge.judged_lines.Tie as tie
+use Rattle.judgement.specs.Judged.{judgedLines}
+use Rattle.judgement.proofs.Writing.{Judging, judging-start, judging-room, judging-next}
+use Rattle.judgement.proofs.judged_lines.Statement.{statement}
+use Rattle.judgement.proofs.judged_lines.Tie as tie
 
 abbrev Inv-loop : tie.InvT-loop
 Inv-loop output₀ rows ordering at₀ kind₀ output at kind = Judging output₀ rows ordering output at kind

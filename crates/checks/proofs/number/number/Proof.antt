@@ -1,9 +1,9 @@
--- `checks::number` meets its contract: each arm returns the number of its refusal.
+-- `checks::number::number` meets its contract: each arm returns the number of its refusal.
 -- Assumes nothing.
 use mathlib.Core.Path.{sym, ap}
 use Rattle.searches.specs.Answer.{number}
-use Rattle.checks.proofs.number.Statement.{statement}
-use Rattle.checks.proofs.number.Tie as tie
+use Rattle.checks.proofs.number.number.Statement.{statement}
+use Rattle.checks.proofs.number.number.Tie as tie
 
 pub number-spec : {M : Type 1} → statement M
 unfolding number

@@ -1,15 +1,15 @@
 // The judgement of a sheet, written to a lent list.
-use crate::read::read;
 use fields::write;
 use searches::Judgement;
 use searches::Kind;
 use searches::Outcome;
+use sheet::read::read;
 ghost use mathlib.Core.Path.{_≡_};
 ghost use Prim.Native.Nat.{_+_, _≤_, _<_};
 ghost use lib.ListN.{length};
 ghost use lib.Seq.{sets};
 ghost use Rattle.searches.specs.Answer.{verdictOf};
-ghost use Rattle.sheet.specs.Judged.{judgedLine, judgedLines, judgementIn, judgementLength};
+ghost use Rattle.judgement.specs.Judged.{judgedLine, judgedLines, judgementIn, judgementLength};
 
 // Writes the line of one kind from `at` on, and answers where it ends.
 fn judged_line(output: &mut [u8], at: usize, kind: u8, judgement: Judgement) -> usize
@@ -31,7 +31,7 @@ fn judged_line(output: &mut [u8], at: usize, kind: u8, judgement: Judgement) -> 
         Judgement::Refused(refusal) => write::line_of_one(
             output,
             at,
-            checks::number(refusal) as usize,
+            checks::number::number(refusal) as usize,
         ),
     }
 }
@@ -63,7 +63,7 @@ pub fn judge(sheet: &[u8], output: &mut [u8]) -> usize
     let held = reading.held;
     let outcome = reading.outcome;
     if let Outcome::Refused(refusal) = outcome {
-        return write::line_of_one(output, 0, checks::number(refusal) as usize);
+        return write::line_of_one(output, 0, checks::number::number(refusal) as usize);
     }
     let n = held.n;
     let rows = held.rows;
