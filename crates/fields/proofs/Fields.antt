@@ -4,16 +4,15 @@
 --   decoded                where the field of x stands, the digits there count x
 --   field-found, field-missing      what the search for the number comes to
 -- Assumes nothing.
-use Prim.Native.Nat.{ℕ, zero, suc, _+_, _-_, _*_, _/_, _%_, _≤_, _<_}
+use Prim.Native.Nat.{ℕ, zero, suc, _+_, _-_, _/_, _%_, _≤_, _<_}
 use mathlib.Core.Path.{_≡_, refl, sym, ap, ap₂, _∙_, subst}
-use mathlib.Core.Bool.{Bool, true, false, cond, _&&_}
+use mathlib.Core.Bool.{Bool, cond, _&&_}
 use mathlib.Core.Logic.{_⊎_, inl, inr}
 use mathlib.Core.List.{List}
 use native.Mathlib.Omega.{arith}
 use borrow.Author.Tests.{ne-eqb, lt-ltb, le-ltb}
-use lib.Dec.{T, ltb, eqb, ltb→lt, eqb→eq}
-use Rattle.bitset.specs.Below.{firstBelow}
-use Rattle.bitset.proofs.Tests.{and-out, below-or, is-true}
+use lib.Dec.{T, ltb, eqb, eqb→eq}
+use Rattle.bitset.proofs.Tests.{and-out, below-or}
 use Rattle.bitset.proofs.Below.{first-unique}
 use Rattle.searches.specs.Ordering.{at}
 use Rattle.fields.specs.Field.{ones, lead, digitOf, digitsAt, isFieldAt, fieldAt}

@@ -2,14 +2,14 @@
 --   judgement-fits         what is answered is no more than the output list has
 --   Judging out₀ rows w out i j      the lines of the kinds below j are written, up to i;   judging-start, judging-next
 -- Assumes nothing.
-use Prim.Native.Nat.{ℕ, zero, suc, _+_, _*_, _/_, _≤_, _<_}
+use Prim.Native.Nat.{ℕ, zero, suc, _+_, _*_, _≤_, _<_}
 use mathlib.Core.Path.{_≡_, refl, sym, ap, ap₂, _∙_, subst}
 use mathlib.Core.Bool.{Bool, true, false, cond}
 use mathlib.Core.Option.{Option, none, some}
-use mathlib.Core.List.{List, [], _∷_, _++_}
+use mathlib.Core.List.{List}
 use lib.Dec.{T, ltb, nltb→le, not-T}
 use native.Mathlib.Omega.{arith}
-use lib.ListN.{length, set, length-append}
+use lib.ListN.{length, length-append}
 use lib.Seq.{sets, length-sets}
 use Rattle.searches.specs.Violation.{Verdict, passes, fails, refused}
 use Rattle.searches.specs.Answer.{judgeAnswer}

@@ -9,12 +9,10 @@ use mathlib.Core.Path.{_≡_, refl, sym, ap, ap₂, _∙_, subst}
 use mathlib.Core.Bool.{Bool, true, false, _&&_, _||_, or-comm}
 use mathlib.Core.Logic.{_⊎_, inl, inr}
 use mathlib.Core.List.{List}
-use native.Mathlib.Numerals.{add-one}
 use native.Mathlib.Omega.{arith}
 use lib.Dec.{T, ltb, eqb, leb, ltb→lt}
-use lib.ListN.{getD, set, replicate}
+use lib.ListN.{set}
 use Rattle.bitset.specs.Below.{anyBelow, allBelow}
-use Rattle.bitset.specs.Word.{inserted}
 use Rattle.bitset.proofs.Tests.{and-out, is-true, is-false, below-suc}
 use Rattle.bitset.proofs.Below.{all-out, all-in}
 use Rattle.searches.specs.Ordering.{at}

@@ -17,7 +17,7 @@ use mathlib.Core.Option.{Option, none, some}
 use native.Mathlib.Omega.{arith}
 use lib.Dec.{T, ltb, eqb, leb, ltb→lt, nltb→le, le→leb, not-T}
 use borrow.Author.Tests.{eq-eqb, ne-eqb}
-use lib.ListN.{length, take, set, replicate, length-append, length-set, length-replicate, List·getD-append}
+use lib.ListN.{length, take, set, length-append, length-set, length-replicate, List·getD-append}
 use lib.Seq.{getD-set-same, getD-set-other, getD-at, getD-take, length-take-le, ext-getD}
 use Rattle.bitset.specs.Below.{anyBelow, allBelow}
 use Rattle.bitset.specs.Word.{inserted}

@@ -14,9 +14,9 @@ use Prim.Native.Nat.{ℕ, zero, suc, _+_, _*_}
 use mathlib.Core.Bool.{Bool, not, _&&_, _||_}
 use mathlib.Core.List.{List, [], _∷_, _++_}
 use mathlib.Core.Option.{Option}
-use lib.Dec.{ltb, leb, eqb}
+use lib.Dec.{ltb, eqb}
 use lib.ListN.{length, take, set, replicate}
-use Rattle.bitset.specs.Below.{anyBelow, allBelow}
+use Rattle.bitset.specs.Below.{allBelow}
 use Rattle.bitset.specs.Word.{inserted}
 use Rattle.searches.specs.Ordering.{at}
 use Rattle.searches.specs.Answer.{vertexOutside, repeated, firstRefusal}

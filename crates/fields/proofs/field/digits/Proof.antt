@@ -1,9 +1,8 @@
 -- `fields::field::digits` meets its contract.
 -- Assumes nothing.
 use mathlib.Core.Path.{_≡_, ap, _∙_}
-use Prim.Native.Nat.{ℕ, _+_, _*_, _≤_}
+use Prim.Native.Nat.{_+_, _≤_}
 use native.Mathlib.Omega.{arith}
-use lib.Dec.{T}
 use Rattle.searches.specs.Ordering.{at}
 use Rattle.fields.specs.Field.{digitOf, digitsAt}
 use Rattle.fields.proofs.Fields.{digit-small}

@@ -1,8 +1,8 @@
 -- `fields::field::field` meets its contract: the digits' number has that field, or no number has.
 -- Assumes nothing.
-use mathlib.Core.Path.{_≡_, sym, _∙_}
-use mathlib.Core.Bool.{Bool, _&&_}
-use lib.Dec.{T, eqb}
+use mathlib.Core.Path.{_≡_}
+use mathlib.Core.Bool.{_&&_}
+use lib.Dec.{eqb}
 use denote.Ref.{now}
 use Rattle.bitset.proofs.Tests.{said-true, said-false}
 use Rattle.fields.specs.Field.{isFieldAt}

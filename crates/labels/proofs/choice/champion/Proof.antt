@@ -17,11 +17,6 @@ use Rattle.labels.proofs.Reached.{front-word, front-free}
 use Rattle.labels.proofs.Scan.{Scanned, scan-first, scan-lead, scan-champion}
 use Rattle.labels.proofs.choice.champion.Statement.{statement}
 use Rattle.labels.proofs.choice.champion.Tie as tie
-use Rattle.labels.proofs.choice.champion.Reads as reads
-use Rattle.labels.proofs.choice.champion.Lts as lts
-use Rattle.bitset.proofs.without_smallest.Reads as without-smallest-reads
-use Rattle.bitset.proofs.smallest.Reads as smallest-reads
-use Rattle.labels.proofs.is_ahead.Reads as is-ahead-reads
 
 abbrev Inv-loop : tie.InvT-loop
 Inv-loop kind labels free reached front best₀ rest₀ best rest = T (member free best) × Scanned (searchOf (kind .0)) labels front (getD labels best 0) rest

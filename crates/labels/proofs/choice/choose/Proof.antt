@@ -11,11 +11,6 @@ use Rattle.labels.specs.Words.{openIn}
 use Rattle.labels.proofs.Choosing.{Closed, closed-next, chosen-found, chosen-none, none-open}
 use Rattle.labels.proofs.choice.choose.Statement.{statement}
 use Rattle.labels.proofs.choice.choose.Tie as tie
-use Rattle.labels.proofs.choice.choose.Reads as reads
-use Rattle.labels.proofs.choice.choose.Lts as lts
-use Rattle.labels.proofs.choice.champion.Reads as champion-reads
-use Rattle.labels.proofs.choice.entry.Reads as entry-reads
-use Rattle.labels.proofs.choice.is_open.Reads as is-open-reads
 
 abbrev Inv-loop : tie.InvT-loop
 Inv-loop kind labels free reached tie-break best end passed₀ passed = Closed (searchOf (kind .0)) labels free tie-break (end - passed)

@@ -6,8 +6,6 @@ use lib.ListN.{List·getD-eq-default}
 use borrow.Author.Needs.{needs}
 use Rattle.labels.proofs.choice.entry.Statement.{statement}
 use Rattle.labels.proofs.choice.entry.Tie as tie
-use Rattle.labels.proofs.choice.entry.Reads as reads
-use Rattle.labels.proofs.choice.entry.Lts as lts
 
 shared-slice-read-result : tie.Need-shared-slice-read-result
 shared-slice-read-result c = search needs

@@ -16,11 +16,6 @@ use Rattle.labels.proofs.Scan.{closed-outside, open-champion, closed-be
 use borrow.Author.Needs.{needs}
 use Rattle.labels.proofs.choice.is_open.Statement.{statement}
 use Rattle.labels.proofs.choice.is_open.Tie as tie
-use Rattle.labels.proofs.choice.is_open.Reads as reads
-use Rattle.labels.proofs.choice.is_open.Lts as lts
-use Rattle.bitset.proofs.contains.Reads as contains-reads
-use Rattle.labels.proofs.is_ahead.Reads as is-ahead-reads
-use Rattle.labels.proofs.is_beaten.Reads as is-beaten-reads
 
 contains-requires : tie.Need-contains-requires
 contains-requires c κs = search needs

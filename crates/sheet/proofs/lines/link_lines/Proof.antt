@@ -1,12 +1,9 @@
 -- `sheet::lines::link_lines` meets its contract: so many links have been read, and all had the form.
 -- Assumes nothing.
-use mathlib.Core.Path.{_≡_, sym, ap, ap₂, _∙_, subst}
-use mathlib.Core.Bool.{Bool}
-use mathlib.Core.List.{List}
+use mathlib.Core.Path.{_≡_, ap, _∙_}
 use Prim.Native.Nat.{ℕ, _-_, _<_}
 use denote.Ref.{now}
 use native.Mathlib.Omega.{arith}
-use lib.Dec.{T}
 use lib.ListN.{set}
 use Rattle.bitset.specs.Word.{inserted}
 use Rattle.bitset.proofs.Tests.{not-true, not-false, said-true, said-false}

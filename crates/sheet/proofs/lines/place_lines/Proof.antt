@@ -1,11 +1,11 @@
 -- `sheet::lines::place_lines` meets its contract: so many places have been read, and all their lines had the form.
 -- Assumes nothing.
-use mathlib.Core.Path.{_≡_, refl, sym, ap, _∙_}
-use mathlib.Core.Bool.{Bool, _&&_}
+use mathlib.Core.Path.{_≡_, refl, ap, _∙_}
+use mathlib.Core.Bool.{_&&_}
 use Prim.Native.Nat.{ℕ, _+_, _-_}
 use denote.Ref.{now}
 use native.Mathlib.Omega.{arith}
-use lib.Dec.{T, ltb, eqb}
+use lib.Dec.{ltb, eqb}
 use Rattle.bitset.specs.Below.{anyBelow}
 use Rattle.bitset.proofs.Tests.{not-true, not-false, said-true, said-false}
 use Rattle.searches.specs.Ordering.{at}

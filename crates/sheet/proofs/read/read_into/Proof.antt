@@ -1,10 +1,9 @@
 -- `sheet::read::read_into` meets its contract: each answer is given after the tests before it were tried.
 -- Assumes nothing.
 use mathlib.Core.Path.{_≡_, sym, ap, ap₂, _∙_, subst}
-use mathlib.Core.Bool.{Bool, true, false, not}
+use mathlib.Core.Bool.{Bool, true, not}
 use mathlib.Core.List.{List}
-use mathlib.Core.Option.{none, some}
-use Prim.Native.Nat.{ℕ, _+_, _*_, _≤_, _<_}
+use Prim.Native.Nat.{ℕ, _≤_, _<_}
 use denote.Ref.{now}
 use native.Mathlib.Omega.{arith}
 use borrow.Author.Needs.{needs}
@@ -16,7 +15,7 @@ use Rattle.bitset.proofs.Tests.{not-true, not-false, said-true}
 use Rattle.searches.specs.Ordering.{at}
 use Rattle.searches.specs.Answer.{vertexOutside, repeated, number, refusalOf}
 use Rattle.checks.proofs.Tried.{Tried, tried-none, tried-one, refused-here, accepted-here}
-use Rattle.sheet.specs.Sheet.{pointsOf, linksOf, placesOf, headed, linkStart, linkFits, placeStart, placeAt, placeFits, joinedRows, formed, walkOf, sheetTests, readAnswer}
+use Rattle.sheet.specs.Sheet.{pointsOf, linksOf, placesOf, linkStart, linkFits, placeStart, placeAt, placeFits, joinedRows, walkOf, sheetTests, readAnswer}
 use Rattle.sheet.specs.Lines.{beyond, placedBytes}
 use Rattle.sheet.proofs.Sheets.{bytes-length, byte-point, outside-same, repeated-same, formed-in, links-unformed, places-unformed, end-unformed, not-both, headed-links, all-inside}
 use Rattle.sheet.proofs.read.read_into.Statement.{statement}
