@@ -70,7 +70,7 @@ module _ (s : Search) (labels : List ℕ) (free : ℕ) where
       (any-at 64 (λ u. member free u && aheadIn s (getD labels u 0) (getD labels v 0)) best l
       (and-in (member free best) (aheadIn s (getD labels best 0) (getD labels v 0)) (c .inside) ahead))))
 
-  -- but in MNS, who is not behind a champion is behind nobody
+  -- except in MNS, who is not behind a champion is behind nobody
   pub open-level : s ≢ mns → (best v : ℕ) → Champion s labels free best → T (member free v) → (T (aheadIn s (getD labels best 0) (getD labels v 0)) → ⊥)
       → true ≡ openIn s labels free v
   unfolding openIn beatenIn aheadIn
