@@ -10,13 +10,16 @@
 --   walkOf b, rowsOf b        the walk and the rows that the sheet holds
 --   sheetTests b              what is refused: numbers and tests in 01's order                      [01: the sheet, checks]
 --   readAnswer b              the number of the first test that holds
-use Prim.Native.Nat.{ℕ, zero, suc, _+_, _*_}
-use mathlib.Core.Bool.{Bool, not, _&&_, _||_}
+--   lineFits b l              the line behind l others has the form: line 1, then the links, then the places
+--   stopsIn b                 the first line, counted from 1, that has not the form; where all have it, the one behind them
+--   stoppedIn b               that line where the sheet is refused with 11, else 0
+use Prim.Native.Nat.{ℕ, zero, suc, _+_, _-_, _*_}
+use mathlib.Core.Bool.{Bool, cond, not, _&&_, _||_}
 use mathlib.Core.List.{List, [], _∷_, _++_}
-use mathlib.Core.Option.{Option}
+use mathlib.Core.Option.{Option, none, some}
 use lib.Dec.{ltb, eqb}
 use lib.ListN.{length, take, set, replicate}
-use Rattle.bitset.specs.Below.{allBelow}
+use Rattle.bitset.specs.Below.{allBelow, firstBelow}
 use Rattle.bitset.specs.Word.{inserted}
 use Rattle.searches.specs.Ordering.{at}
 use Rattle.searches.specs.Answer.{vertexOutside, repeated, firstRefusal}
@@ -114,3 +117,19 @@ sheetTests b =
 
 unfoldable pub readAnswer : List ℕ → Option ℕ
 readAnswer b = firstRefusal (sheetTests b)
+
+-- ---- where a sheet stops having the form
+
+unfoldable pub lineFits : List ℕ → ℕ → Bool
+lineFits b zero = headed b
+lineFits b (suc j) = cond (ltb j (linksOf b)) (linkFits b j) (placeFits b (j - linksOf b))
+
+unfoldable pub stopsIn : List ℕ → ℕ
+stopsIn b = suc (firstBelow (suc (linksOf b + placesOf b)) (λ l. not (lineFits b l)))
+
+unfoldable pub stoppedWith : Option ℕ → List ℕ → ℕ
+stoppedWith none b = 0
+stoppedWith (some r) b = cond (eqb r 11) (stopsIn b) 0
+
+unfoldable pub stoppedIn : List ℕ → ℕ
+stoppedIn b = stoppedWith (readAnswer b) b
