@@ -8,3 +8,4 @@ pub mod Written
 pub mod Links
 pub mod ReadBack
 pub mod RoundTrip
+pub mod Longest

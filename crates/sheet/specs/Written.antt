@@ -6,6 +6,7 @@
 --   linkLine c, placeLine v    the line of a link, and of a place
 --   lines line l               a line for each entry of l
 --   sheetOf rows w             the sheet of the graph that the rows give and the walk w
+--   longest                    as many bytes as the longest valid sheet has: 64 points, 2016 links, 64 places    [01: no valid sheet is longer]
 use Prim.Native.Nat.{ℕ, zero, suc, _*_, _/_, _%_}
 use mathlib.Core.Bool.{Bool, cond, _&&_}
 use mathlib.Core.List.{List, [], _∷_, _++_}
@@ -39,3 +40,6 @@ lines line (x ∷ l) = line x ++ lines line l
 
 unfoldable pub sheetOf : List ℕ → List ℕ → List ℕ
 sheetOf rows w = firstLine (length rows) (length (linkList rows)) (length w) ++ (lines linkLine (linkList rows) ++ lines placeLine w)
+
+abbrev pub longest : ℕ
+longest = 18477
