@@ -133,12 +133,16 @@ first-unique {n} {f} {m} r = go (three-ways m (firstBelow n f))
     go (inr (inl e)) = e
     go (inr (inr l)) = absurd (r .least (firstBelow n f) l (first n f .holds (omega (arith, r .within))))
 
-pub first-same : (n : ℕ) (f g : ℕ → Bool) → ((i : ℕ) → i < n → f i ≡ g i) → firstBelow n f ≡ firstBelow n g
-first-same n f g e = first-unique (record {
+-- two tests that agree up to the first number at which the one holds
+pub first-upto : (n : ℕ) (f g : ℕ → Bool) → ((i : ℕ) → i ≤ firstBelow n f → i < n → f i ≡ g i) → firstBelow n f ≡ firstBelow n g
+first-upto n f g e = first-unique (record {
   within = first n f .within;
-  holds = λ l. subst (λ (b : Bool). T b) (e (firstBelow n f) l) (first n f .holds l);
-  least = λ i l p. first n f .least i l (subst (λ (b : Bool). T b) (sym (e i (omega (arith, first n f .within)))) p);
+  holds = λ l. subst (λ (b : Bool). T b) (e (firstBelow n f) (omega arith) l) (first n f .holds l);
+  least = λ i l p. first n f .least i l (subst (λ (b : Bool). T b) (sym (e i (omega arith) (omega (arith, first n f .within)))) p);
 })
+
+pub first-same : (n : ℕ) (f g : ℕ → Bool) → ((i : ℕ) → i < n → f i ≡ g i) → firstBelow n f ≡ firstBelow n g
+first-same n f g e = first-upto n f g (λ i _ l. e i l)
 
 -- the lowest number apart: 0 is the first, or the first is one above the first of what is left
 pub first-bottom : (n : ℕ) (f : ℕ → Bool) → firstBelow (suc n) f ≡ cond (f 0) 0 (suc (firstBelow n (λ i. f (suc i))))

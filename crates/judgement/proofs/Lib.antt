@@ -1,1 +1,2 @@
 pub mod Writing
+pub mod Cut

@@ -9,3 +9,4 @@ pub mod Links
 pub mod ReadBack
 pub mod RoundTrip
 pub mod Longest
+pub mod Cut

@@ -1,5 +1,6 @@
 -- The links of a graph, each by its number, and the links that a sheet lists.
 --   Graph rows                 what a valid graph's rows are: at most 64, within, no loops, both ways;   valid-graph
+--   below-out                  the greater of two pairs has the greater first point, or the same and the greater second
 --   before-in, before-out      pairs in ascending order are numbers in ascending order
 --   parts                      the two points of a number
 --   link-in, link-out          which numbers stand for links;   links-listed   linkList lists them
@@ -69,17 +70,20 @@ module _ (p q p′ q′ : ℕ) where
           or-inr (ltb p p′) (eqb p p′ && ltb q q′)
           (and-in (eqb p p′) (ltb q q′) (equal-test e) (lt→ltb q q′ (omega arith)))
 
-  pub before-out : T (isBelow p q p′ q′) → q < 64 → 64 * p + q < 64 * p′ + q′
+  pub below-out : T (isBelow p q p′ q′) → (p < p′) ⊎ ((p ≡ p′) × (q < q′))
   unfolding isBelow
-  before-out t h = go (or-out (ltb p p′) (eqb p p′ && ltb q q′) t)
+  below-out t = go (or-out (ltb p p′) (eqb p p′ && ltb q q′) t)
     where
-      go : T (ltb p p′) ⊎ T (eqb p p′ && ltb q q′) → 64 * p + q < 64 * p′ + q′
-      go (inl s) = let l = ltb→lt p p′ s in omega arith
-      go (inr s) =
-          let both = and-out (eqb p p′) (ltb q q′) s in
-          let e = eqb→eq p p′ (both .0) in
-          let l = ltb→lt q q′ (both .1) in
-          omega arith
+      go : T (ltb p p′) ⊎ T (eqb p p′ && ltb q q′) → (p < p′) ⊎ ((p ≡ p′) × (q < q′))
+      go (inl s) = inl (ltb→lt p p′ s)
+      go (inr s) = let both = and-out (eqb p p′) (ltb q q′) s in inr (eqb→eq p p′ (both .0), ltb→lt q q′ (both .1))
+
+  pub before-out : T (isBelow p q p′ q′) → q < 64 → 64 * p + q < 64 * p′ + q′
+  before-out t h = go (below-out t)
+    where
+      go : (p < p′) ⊎ ((p ≡ p′) × (q < q′)) → 64 * p + q < 64 * p′ + q′
+      go (inl l) = omega arith
+      go (inr l) = omega arith
 
 pub parts : (u v : ℕ) → v < 64 → ((64 * u + v) / 64 ≡ u) × ((64 * u + v) % 64 ≡ v)
 parts u v h = (omega arith, omega arith)

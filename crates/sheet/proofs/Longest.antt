@@ -1,8 +1,11 @@
 -- How long a sheet can be.
---   triangle n             how many pairs there are below n;   triangle-doubled   twice that is n (n - 1)
---   links-few              link lines that have the form are no more than the pairs of points;   links-halved, links-most   likewise, in numbers
+--   triangle n             how many pairs there are below n;   triangle-doubled   twice that is n (n - 1);   triangle-grows
+--   remaining n u v        how many of them, in ascending order, there are from the pair u, v on
+--   links-few              link lines that have the form are no more than the pairs of points;   links-halved   at most n (n - 1) / 2
+--   links-most             at most 2016 where there are at most 64 points
 --   longest-links          a sheet that is not refused has at most n (n - 1) / 2 links
---   longest-sheet          and is not longer than `longest`;   longest-written   nor is a sheet that is written
+--   longest-sheet          and at most `longest` bytes;   formed-short   as has every sheet whose lines have the form
+--   longest-written        the sheet of a valid graph and a walk of it has at most `longest` bytes
 -- Assumes nothing.
 use Prim.Native.Nat.{ℕ, zero, suc, _+_, _-_, _*_, _^_, _≤_, _<_}
 use mathlib.Core.Path.{_≡_, refl, ap, _∙_}
@@ -12,14 +15,18 @@ use mathlib.Core.List.{List}
 use mathlib.Core.Option.{none}
 use native.Mathlib.Nat.{mul-suc, suc-mul}
 use native.Mathlib.Omega.{arith}
-use lib.Dec.{T, ltb, eqb, ltb→lt, eqb→eq}
+use lib.Dec.{T, eqb, eqb→eq}
 use lib.ListN.{length}
-use Rattle.bitset.proofs.Tests.{and-out, or-out, below-or}
+use Rattle.bitset.specs.Below.{allBelow}
+use Rattle.bitset.proofs.Tests.{and-out, below-or}
+use Rattle.bitset.proofs.Below.{all-out}
 use Rattle.searches.specs.Ordering.{at}
 use Rattle.searches.specs.Answer.{judgeTests, Accepts}
-use Rattle.sheet.specs.Sheet.{pointsOf, linksOf, linkStart, fromOf, toOf, beforeFrom, beforeTo, isBelow, placeStart, readAnswer}
+use Rattle.sheet.specs.Sheet.{pointsOf, linksOf, placesOf, linkStart, fromOf, toOf, beforeFrom, beforeTo, linkFits}
+use Rattle.sheet.specs.Sheet.{placeStart, placeFits, formed, readAnswer}
 use Rattle.sheet.specs.Written.{sheetOf, longest}
-use Rattle.sheet.proofs.Accepted.{Line, accepted-out}
+use Rattle.sheet.proofs.Accepted.{Line, line-out, accepted-out}
+use Rattle.sheet.proofs.Links.{below-out}
 use Rattle.sheet.proofs.RoundTrip.{reads-back}
 
 -- ---- pairs
@@ -49,23 +56,14 @@ triangle-grows m (suc n) l = go (below-or n m) (triangle-grows m n)
     go (inl h) rest = let e : m ≡ suc n = omega arith in omega (arith, ap triangle e)
     go (inr h) rest = omega (arith, rest h)
 
--- the greater of two pairs has the greater first point, or the same and the greater second
-pub below-out : {p q p′ q′ : ℕ} → T (isBelow p q p′ q′) → (p < p′) ⊎ ((p ≡ p′) × (q < q′))
-unfolding isBelow
-below-out {p} {q} {p′} {q′} t = go (or-out (ltb p p′) (eqb p p′ && ltb q q′) t)
-  where
-    go : T (ltb p p′) ⊎ T (eqb p p′ && ltb q q′) → (p < p′) ⊎ ((p ≡ p′) × (q < q′))
-    go (inl s) = inl (ltb→lt p p′ s)
-    go (inr s) = let both = and-out (eqb p p′) (ltb q q′) s in inr (eqb→eq p p′ (both .0), ltb→lt q q′ (both .1))
-
 -- ---- links
 
 module _ (n : ℕ) where
-  -- the pairs below n from u, v on, in ascending order
+  -- those with a greater first number, and those with first number u from v on
   abbrev remaining : ℕ → ℕ → ℕ
   remaining u v = triangle (n - suc u) + (n - v)
 
-  -- all that begin with u or more
+  -- those are among the pairs of numbers from u on
   remaining-from : {u v : ℕ} → u < v → v < n → remaining u v ≤ triangle (n - u)
   unfolding triangle
   remaining-from {u} {v} up inside =
@@ -80,16 +78,16 @@ module _ (n : ℕ) where
       omega (arith, ap triangle e)
 
 module _ (b : List ℕ) where
-  -- link i and those that may come after it are no more than the pairs that i others leave
+  -- the links before link i, and the pairs from it on, are no more than all pairs
   ranked : (i : ℕ) → ((j : ℕ) → j ≤ i → Line b j) → i + remaining (pointsOf b) (fromOf b i) (toOf b i) ≤ triangle (pointsOf b)
   unfolding beforeFrom beforeTo
   ranked zero lines =
-      let first = lines 0 (omega arith) in
-      omega (arith, remaining-from (pointsOf b) (first .up) (first .inside), triangle-grows (pointsOf b - fromOf b 0) (pointsOf b) (omega arith))
+      let here = lines 0 (omega arith) in
+      omega (arith, remaining-from (pointsOf b) (here .up) (here .inside), triangle-grows (pointsOf b - fromOf b 0) (pointsOf b) (omega arith))
   ranked (suc i) lines =
       let here = lines (suc i) (omega arith) in
       let last = lines i (omega arith) in
-      omega (arith, ranked i (λ j l. lines j (omega arith)), remaining-falls (pointsOf b) (last .inside) (here .up) (here .inside) (below-out (here .after)))
+      omega (arith, ranked i (λ j l. lines j (omega arith)), remaining-falls (pointsOf b) (last .inside) (here .up) (here .inside) (below-out (fromOf b i) (toOf b i) (fromOf b (suc i)) (toOf b (suc i)) (here .after)))
 
   pub links-few : (j : ℕ) → ((i : ℕ) → i < j → Line b i) → j ≤ triangle (pointsOf b)
   links-few zero lines = omega arith
@@ -104,15 +102,26 @@ module _ (b : List ℕ) where
 
 -- ---- sheets
 
+module _ (b : List ℕ) (points : pointsOf b ≤ 64) (places : placesOf b ≤ pointsOf b) where
+  lines-short : ((j : ℕ) → j < linksOf b → Line b j) → length b ≡ placeStart b (placesOf b) → length b ≤ longest
+  unfolding placeStart linkStart
+  lines-short lines long = omega (arith, links-most b (linksOf b) lines points)
+
+  pub formed-short : T (formed b) → length b ≤ longest
+  unfolding formed
+  formed-short t =
+      let links = allBelow (linksOf b) (linkFits b) in
+      let rest = allBelow (placesOf b) (placeFits b) in
+      let whole = and-out (links && rest) (eqb (length b) (placeStart b (placesOf b))) t in
+      lines-short (λ j l. line-out b j (all-out (linksOf b) (linkFits b) (and-out links rest (whole .0) .0) j l))
+      (eqb→eq (length b) (placeStart b (placesOf b)) (whole .1))
+
 module _ (b : List ℕ) (read : readAnswer b ≡ none) where
   pub longest-links : 2 * linksOf b ≤ pointsOf b * (pointsOf b - 1)
   longest-links = links-halved b (linksOf b) (accepted-out b read .link-lines)
 
   pub longest-sheet : length b ≤ longest
-  unfolding placeStart linkStart
-  longest-sheet =
-      let x = accepted-out b read in
-      omega (arith, x .long, links-most b (linksOf b) (x .link-lines) (x .points), x .places, x .points)
+  longest-sheet = let x = accepted-out b read in lines-short b (x .points) (x .places) (x .link-lines) (x .long)
 
 pub longest-written : (kind : ℕ) (rows w : List ℕ) → Accepts (judgeTests kind rows w) → ((u : ℕ) → u < length rows → at rows u < 2 ^ 64) → length (sheetOf rows w) ≤ longest
 longest-written kind rows w valid words = longest-sheet (sheetOf rows w) (reads-back kind rows w valid words .answer)
