@@ -7,7 +7,7 @@
 --   is-true, is-false                          what a test is worth
 --   not-true, not-false                        what the answer turned round says
 --   said-true, said-false                      what an answer that equals a test says of it
---   cond-yes, cond-no                          what a choice by a test is worth
+--   cond-yes, cond-no, cond-else               what a choice by a test is worth
 --   below-or, below-suc, three-ways            two numbers are in one order or the other
 -- Assumes nothing.
 use mathlib.Core.Path.{_≡_, refl, sym, _∙_, subst}
@@ -95,6 +95,11 @@ cond-yes false x y t = absurd t
 pub cond-no : {A : Type 0} (b : Bool) (x y : A) → (T b → ⊥) → cond b x y ≡ y
 cond-no true x y f = absurd (f tt)
 cond-no false x y f = refl
+
+-- what is chosen where the test does not hold may be put another way
+pub cond-else : {A : Type 0} (b : Bool) (x : A) {y z : A} → ((T b → ⊥) → y ≡ z) → cond b x y ≡ cond b x z
+cond-else true x e = refl
+cond-else false x e = e (λ t. t)
 
 pub below-or : (i j : ℕ) → (i < j) ⊎ (j ≤ i)
 below-or i j = go (decided (ltb i j))

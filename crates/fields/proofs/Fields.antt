@@ -15,39 +15,39 @@ use lib.Dec.{T, ltb, eqb, eqb→eq}
 use Rattle.bitset.proofs.Tests.{and-out, below-or}
 use Rattle.bitset.proofs.Below.{first-unique}
 use Rattle.searches.specs.Ordering.{at}
-use Rattle.fields.specs.Field.{ones, lead, digitOf, digitsAt, isFieldAt, fieldAt}
+use Rattle.fields.specs.Field.{ones, lead, digitValue, digitsAt, isFieldAt, fieldAt}
 
 -- what a byte from 48 to 57 counts
-pub digit-is : (c : ℕ) → 48 ≤ c → c < 58 → digitOf c ≡ c - 48
-unfolding digitOf
+pub digit-is : (c : ℕ) → 48 ≤ c → c < 58 → digitValue c ≡ c - 48
+unfolding digitValue
 digit-is c l h = ap₂ (λ (a b : Bool). cond (a && b) (c - 48) 0) (lt-ltb 47 c (omega arith)) (lt-ltb c 58 h)
 
-digit-at : (d : ℕ) → d < 10 → digitOf (48 + d) ≡ d
+digit-at : (d : ℕ) → d < 10 → digitValue (48 + d) ≡ d
 digit-at d l = digit-is (48 + d) (omega arith) (omega arith) ∙ omega arith
 
-pub digit-ones : (x : ℕ) → digitOf (ones x) ≡ x % 10
+pub digit-ones : (x : ℕ) → digitValue (ones x) ≡ x % 10
 unfolding ones
 digit-ones x = digit-at (x % 10) (omega arith)
 
-pub digit-lead : (y : ℕ) → digitOf (lead y) ≡ y % 10
-unfolding lead digitOf
+pub digit-lead : (y : ℕ) → digitValue (lead y) ≡ y % 10
+unfolding lead digitValue
 digit-lead zero = refl
 digit-lead (suc y) =
-    ap (λ (b : Bool). digitOf (cond b 32 (48 + suc y % 10))) (ne-eqb (suc y) 0 (λ e. omega arith)) ∙ digit-at (suc y % 10) (omega arith)
+    ap (λ (b : Bool). digitValue (cond b 32 (48 + suc y % 10))) (ne-eqb (suc y) 0 (λ e. omega arith)) ∙ digit-at (suc y % 10) (omega arith)
 
 -- any other byte counts 0
-pub digit-low : (c : ℕ) → c < 48 → 0 ≡ digitOf c
-unfolding digitOf
+pub digit-low : (c : ℕ) → c < 48 → 0 ≡ digitValue c
+unfolding digitValue
 digit-low c l = sym (ap (λ (a : Bool). cond (a && ltb c 58) (c - 48) 0) (le-ltb 47 c (omega arith)))
 
-pub digit-high : (c : ℕ) → 57 < c → 0 ≡ digitOf c
-unfolding digitOf
+pub digit-high : (c : ℕ) → 57 < c → 0 ≡ digitValue c
+unfolding digitValue
 digit-high c l = sym (ap₂ (λ (a b : Bool). cond (a && b) (c - 48) 0) (lt-ltb 47 c (omega arith)) (le-ltb c 58 (omega arith)))
 
-pub digit-small : (c : ℕ) → digitOf c ≤ 9
+pub digit-small : (c : ℕ) → digitValue c ≤ 9
 digit-small c = go (below-or c 48) (below-or c 58)
   where
-    go : (c < 48) ⊎ (48 ≤ c) → (c < 58) ⊎ (58 ≤ c) → digitOf c ≤ 9
+    go : (c < 48) ⊎ (48 ≤ c) → (c < 58) ⊎ (58 ≤ c) → digitValue c ≤ 9
     go (inl l) _ = omega (arith, digit-low c l)
     go (inr l) (inl h) = omega (arith, digit-is c l h)
     go (inr l) (inr h) = omega (arith, digit-high c (omega arith))
@@ -75,10 +75,10 @@ module _ (b : List ℕ) (i : ℕ) where
       let halves = and-out (e1 && e2) (e3 && e4) t in
       let left = and-out e1 e2 (halves .0) in
       let right = and-out e3 e4 (halves .1) in
-      let a : digitOf (at b i) ≡ x / 10 / 10 / 10 % 10 = ap digitOf (eqb→eq (at b i) (lead (x / 10 / 10 / 10)) (left .0)) ∙ digit-lead (x / 10 / 10 / 10) in
-      let c : digitOf (at b (i + 1)) ≡ x / 10 / 10 % 10 = ap digitOf (eqb→eq (at b (i + 1)) (lead (x / 10 / 10)) (left .1)) ∙ digit-lead (x / 10 / 10) in
-      let d : digitOf (at b (i + 2)) ≡ x / 10 % 10 = ap digitOf (eqb→eq (at b (i + 2)) (lead (x / 10)) (right .0)) ∙ digit-lead (x / 10) in
-      let e : digitOf (at b (i + 3)) ≡ x % 10 = ap digitOf (eqb→eq (at b (i + 3)) (ones x) (right .1)) ∙ digit-ones x in
+      let a : digitValue (at b i) ≡ x / 10 / 10 / 10 % 10 = ap digitValue (eqb→eq (at b i) (lead (x / 10 / 10 / 10)) (left .0)) ∙ digit-lead (x / 10 / 10 / 10) in
+      let c : digitValue (at b (i + 1)) ≡ x / 10 / 10 % 10 = ap digitValue (eqb→eq (at b (i + 1)) (lead (x / 10 / 10)) (left .1)) ∙ digit-lead (x / 10 / 10) in
+      let d : digitValue (at b (i + 2)) ≡ x / 10 % 10 = ap digitValue (eqb→eq (at b (i + 2)) (lead (x / 10)) (right .0)) ∙ digit-lead (x / 10) in
+      let e : digitValue (at b (i + 3)) ≡ x % 10 = ap digitValue (eqb→eq (at b (i + 3)) (ones x) (right .1)) ∙ digit-ones x in
       omega arith
 
   pub field-found : {x : ℕ} → x ≡ digitsAt b i → T (isFieldAt b i x) → x ≡ fieldAt b i

@@ -1,4 +1,2 @@
 pub mod Fields
-pub mod Pieces
-pub mod Held
 pub mod Writing

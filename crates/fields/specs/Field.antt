@@ -5,7 +5,7 @@
 --   fields xs, line xs  the fields of these numbers; a line with them                                 [01: line]
 --   isFieldAt b i x     the field of x stands in b from i on
 --   fieldAt b i         the number whose field stands there; 10000 where no number's does
---   digitOf c           what the byte c counts as a digit; 0 where it is none
+--   digitValue c           what the byte c counts as a digit; 0 where it is none
 --   digitsAt b i        what the four bytes from i on count
 use Prim.Native.Nat.{ℕ, _+_, _-_, _*_, _/_, _%_}
 use mathlib.Core.Bool.{Bool, cond, _&&_}
@@ -38,8 +38,8 @@ isFieldAt b i x =
 unfoldable pub fieldAt : List ℕ → ℕ → ℕ
 fieldAt b i = firstBelow 10000 (isFieldAt b i)
 
-unfoldable pub digitOf : ℕ → ℕ
-digitOf c = cond (ltb 47 c && ltb c 58) (c - 48) 0
+unfoldable pub digitValue : ℕ → ℕ
+digitValue c = cond (ltb 47 c && ltb c 58) (c - 48) 0
 
 unfoldable pub digitsAt : List ℕ → ℕ → ℕ
-digitsAt b i = 1000 * digitOf (at b i) + 100 * digitOf (at b (i + 1)) + 10 * digitOf (at b (i + 2)) + digitOf (at b (i + 3))
+digitsAt b i = 1000 * digitValue (at b i) + 100 * digitValue (at b (i + 1)) + 10 * digitValue (at b (i + 2)) + digitValue (at b (i + 3))

@@ -1,19 +1,19 @@
-// One field of a sheet: four columns of a decimal number.
+// One field: four columns of a decimal number.
 ghost use mathlib.Core.Path.{_≡_};
 ghost use Prim.Native.Nat.{_<_};
 ghost use Rattle.searches.specs.Ordering.{at};
-ghost use Rattle.fields.specs.Field.{ones, lead, digitOf, digitsAt, fieldAt};
+ghost use Rattle.fields.specs.Field.{ones, lead, digitValue, digitsAt, fieldAt};
 
 // The byte at `i`; 0 behind the end.
-pub fn byte_at(sheet: &[u8], i: usize) -> u8
-    ensures { λ r. ⌜ r ≡ at (now (sheet .entry)) i ⌝ }
+pub fn byte_at(bytes: &[u8], i: usize) -> u8
+    ensures { λ r. ⌜ r ≡ at (now (bytes .entry)) i ⌝ }
 {
-    if i < sheet.len() { sheet[i] } else { 0 }
+    if i < bytes.len() { bytes[i] } else { 0 }
 }
 
 // The digit that a byte is; 0 where it is none.
 fn digit(byte: u8) -> usize
-    ensures { λ r. ⌜ r ≡ digitOf byte ⌝ }
+    ensures { λ r. ⌜ r ≡ digitValue byte ⌝ }
 {
     if byte < 48 {
         return 0;
@@ -39,26 +39,26 @@ pub fn ones_of(x: usize) -> u8
 }
 
 // What the four bytes from `i` on count.
-fn digits(sheet: &[u8], i: usize) -> usize
+fn digits(bytes: &[u8], i: usize) -> usize
     requires { ⌜ i < 1000000 ⌝ }
-    ensures { λ r. ⌜ r ≡ digitsAt (now (sheet .entry)) i ⌝ }
+    ensures { λ r. ⌜ r ≡ digitsAt (now (bytes .entry)) i ⌝ }
 {
-    let a = digit(byte_at(sheet, i));
-    let b = digit(byte_at(sheet, i + 1));
-    let c = digit(byte_at(sheet, i + 2));
-    let d = digit(byte_at(sheet, i + 3));
+    let a = digit(byte_at(bytes, i));
+    let b = digit(byte_at(bytes, i + 1));
+    let c = digit(byte_at(bytes, i + 2));
+    let d = digit(byte_at(bytes, i + 3));
     1000 * a + 100 * b + 10 * c + d
 }
 
-// The number whose field stands in `sheet` from `i` on; 10000 where none does. No other number than the digits' has that field.
-pub fn field(sheet: &[u8], i: usize) -> usize
+// The number whose field stands in `bytes` from `i` on; 10000 where none does. No other number than the digits' has that field.
+pub fn field(bytes: &[u8], i: usize) -> usize
     requires { ⌜ i < 1000000 ⌝ }
-    ensures { λ r. ⌜ r ≡ fieldAt (now (sheet .entry)) i ⌝ }
+    ensures { λ r. ⌜ r ≡ fieldAt (now (bytes .entry)) i ⌝ }
 {
-    let x = digits(sheet, i);
-    let a = byte_at(sheet, i) == lead_of(x / 10 / 10 / 10);
-    let b = byte_at(sheet, i + 1) == lead_of(x / 10 / 10);
-    let c = byte_at(sheet, i + 2) == lead_of(x / 10);
-    let d = byte_at(sheet, i + 3) == ones_of(x);
+    let x = digits(bytes, i);
+    let a = byte_at(bytes, i) == lead_of(x / 10 / 10 / 10);
+    let b = byte_at(bytes, i + 1) == lead_of(x / 10 / 10);
+    let c = byte_at(bytes, i + 2) == lead_of(x / 10);
+    let d = byte_at(bytes, i + 3) == ones_of(x);
     if (a & b) & (c & d) { x } else { 10000 }
 }

@@ -1,4 +1,3 @@
-// Numbers in four columns: read through one reader that remembers how far it has read, and written line by line.
-mod field;
-pub mod reader;
+// Numbers in four columns: read at an offset of a list of bytes, and written line by line.
+pub mod field;
 pub mod write;

@@ -1,4 +1,4 @@
-// Lines of fields, written to a lent list.
+// Lines of fields, written to a list that the caller owns.
 use crate::field::lead_of;
 use crate::field::ones_of;
 ghost use mathlib.Core.Path.{_≡_};

@@ -9,26 +9,26 @@
 -- Assumes nothing.
 use Prim.Native.Nat.{ℕ, zero, suc, _+_, _-_, _*_, _≤_, _<_}
 use mathlib.Core.Path.{_≡_, refl, sym, ap, _∙_, subst}
-use mathlib.Core.Bool.{Bool, true, false, cond, not}
+use mathlib.Core.Bool.{Bool, cond, not}
 use mathlib.Core.Logic.{_⊎_, inl, inr}
 use mathlib.Core.List.{List}
 use mathlib.Core.Option.{Option, none, some}
 use native.Mathlib.Omega.{arith}
-use lib.Dec.{T, ltb, eqb, ltb→lt, lt→ltb, nltb→le, eqb→eq, not-T, T-not}
+use lib.Dec.{T, ltb, eqb, ltb→lt, lt→ltb, nltb→le, eqb→eq, not-T}
 use lib.ListN.{length, take}
 use lib.Seq.{length-take-le, getD-take, take-all}
 use Rattle.bitset.specs.Below.{firstBelow}
-use Rattle.bitset.proofs.Tests.{not-not, decided, cond-yes, cond-no, below-or}
+use Rattle.bitset.proofs.Tests.{not-not, decided, cond-yes, cond-no, cond-else, below-or}
 use Rattle.bitset.proofs.Below.{first, first-upto, first-same}
 use Rattle.searches.specs.Ordering.{at}
-use Rattle.searches.specs.Answer.{firstRefusal, Refuses}
-use Rattle.searches.proofs.Refusals.{first-refuses}
+use Rattle.searches.specs.Answer.{firstRefusal}
 use Rattle.fields.specs.Field.{isFieldAt, fieldAt}
 use Rattle.fields.proofs.Fields.{columns}
 use Rattle.sheet.specs.Sheet.{pointsOf, linksOf, placesOf, headed, linkStart, fromOf, toOf, beforeFrom, beforeTo, linkFitsAt, linkFits}
 use Rattle.sheet.specs.Sheet.{placeStart, placeAt, placeFits, formed, sheetTests, readAnswer, lineFits, stopsIn, stoppedWith, stoppedIn}
 use Rattle.sheet.specs.Lines.{heldUnless, heldIn}
 use Rattle.sheet.specs.Written.{longest}
+use Rattle.sheet.proofs.Sheets.{refused-late}
 use Rattle.sheet.proofs.Accepted.{line-out}
 use Rattle.sheet.proofs.Longest.{links-most, longest-sheet, formed-short}
 
@@ -36,10 +36,6 @@ use Rattle.sheet.proofs.Longest.{links-most, longest-sheet, formed-shor
 
 abbrev headAnswer : Bool → ℕ → ℕ → Option ℕ
 headAnswer h n k = cond (not h) (some 11) (cond (ltb 64 n) (some 2) (cond (ltb n k) (some 6) (some 11)))
-
-cond-else : {A : Type 0} (t : Bool) (x : A) {y z : A} → ((T t → ⊥) → y ≡ z) → cond t x y ≡ cond t x z
-cond-else true x e = refl
-cond-else false x e = e (λ t. t)
 
 longer-answer : (b : List ℕ) → longest < length b → readAnswer b ≡ headAnswer (headed b) (pointsOf b) (placesOf b)
 unfolding readAnswer sheetTests firstRefusal
@@ -140,18 +136,6 @@ module _ (b c : List ℕ) (alike : (i : ℕ) → i ≤ longest → at c i ≡ at
 
 -- ---- the first bytes of a sheet
 
--- a sheet that is refused with 11 although line 1 has the form has few points, and no more places
-small-head : (b : List ℕ) → readAnswer b ≡ some 11 → T (headed b) → (pointsOf b ≤ 64) × (placesOf b ≤ pointsOf b)
-unfolding readAnswer sheetTests
-small-head b e h = head (first-refuses (sheetTests b) 11 e)
-  where
-    head : Refuses 11 (sheetTests b) → (pointsOf b ≤ 64) × (placesOf b ≤ pointsOf b)
-    head (inl x) = absurd (T-not (headed b) (x .1) h)
-    head (inr (out, inl x)) = absurd (omega (arith, x .0))
-    head (inr (out, inr (few, inl x))) = absurd (omega (arith, x .0))
-    head (inr (out, inr (few, inr (short, x)))) =
-        (nltb→le 64 (pointsOf b) (not-T (ltb 64 (pointsOf b)) few), nltb→le (pointsOf b) (placesOf b) (not-T (ltb (pointsOf b) (placesOf b)) short))
-
 module _ (b : List ℕ) where
   alike-cut : (i : ℕ) → i ≤ longest → at (take (suc longest) b) i ≡ at b i
   alike-cut i l = getD-take (suc longest) b i 0 (omega arith)
@@ -190,7 +174,7 @@ module _ (b : List ℕ) where
       pick : {r : ℕ} → readAnswer b ≡ some r → T (eqb r 11) ⊎ (T (eqb r 11) → ⊥) → cond (eqb r 11) (stopsIn (take (suc longest) b)) 0 ≡ cond (eqb r 11) (stopsIn b) 0
       pick {r} e (inl t) =
           ap (λ (x : ℕ). cond (eqb r 11) x 0)
-          (stops-alike b (take (suc longest) b) alike-cut (small-head b (e ∙ ap some (eqb→eq r 11 t))))
+          (stops-alike b (take (suc longest) b) alike-cut (λ h. let late = refused-late b (e ∙ ap some (eqb→eq r 11 t)) h in (late .0, late .1)))
       pick {r} e (inr out) = cond-no (eqb r 11) (stopsIn (take (suc longest) b)) 0 out ∙ sym (cond-no (eqb r 11) (stopsIn b) 0 out)
 
       go : (a : Option ℕ) → readAnswer b ≡ a → stoppedWith a (take (suc longest) b) ≡ stoppedWith a b

@@ -8,5 +8,10 @@ pub mod Written
 pub mod Links
 pub mod ReadBack
 pub mod RoundTrip
+pub mod Onward
+pub mod Owning
+pub mod Parsing
 pub mod Longest
 pub mod Cut
+pub mod Ends
+pub mod Decided

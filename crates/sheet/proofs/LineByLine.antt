@@ -1,129 +1,154 @@
--- The loops over the lines of a sheet.
---   all-fails                one line that does not have the form decides
---   Linking, Placing         so many lines have been read, and all had the form;   -start, -next, -fails, -end
---   link-same, place-same    what is asked of a line is the test
---   link-small               the points of a link fit the rows
+-- The lines of a sheet, each parsed from where it begins.
+--   Chosen test x y z        z is the choice between x and y by the test;   chosen-first, chosen-second   which one, where the test is known
+--   joined-as                the two rows of a link, written one after the other
+--   Headed, Linked           line 1, a link's line is chosen by the test of its fields and its last byte
+--   headed-read, linked-read, placed-read     the fields and the last byte that were read are those of the line
+--   headed-by, linked-by     what line 1, a link's line leaves, by its parts
+--   head-small, link-small   the numbers of line 1 have four columns; the points of a link fit the rows
+--   due, first-due, link-due, place-due     the line that is due, where the tests before it are known;   AtPlaces   behind the links
 -- Assumes nothing.
-use Prim.Native.Nat.{ℕ, suc, _+_, _*_, _%_, _≤_, _<_}
+use Prim.Native.Nat.{ℕ, _+_, _≤_, _<_}
 use mathlib.Core.Path.{_≡_, refl, sym, ap, ap₂, _∙_, subst}
-use mathlib.Core.Bool.{Bool, true, false, _&&_, _||_, or-comm}
-use mathlib.Core.Logic.{_⊎_, inl, inr}
+use mathlib.Core.Bool.{Bool, true, false, cond, not, _&&_, _||_}
 use mathlib.Core.List.{List}
 use native.Mathlib.Omega.{arith}
-use lib.Dec.{T, ltb, eqb, leb, ltb→lt}
+use borrow.Author.Tests.{lt-leb, ne-eqb}
+use lib.Dec.{T, ltb, leb, eqb, ltb→lt}
 use lib.ListN.{set}
-use Rattle.bitset.specs.Below.{anyBelow, allBelow}
-use Rattle.bitset.proofs.Tests.{and-out, is-true, is-false, below-suc}
-use Rattle.bitset.proofs.Below.{all-out, all-in}
+use Rattle.bitset.specs.Word.{inserted}
+use Rattle.bitset.proofs.Tests.{and-out}
 use Rattle.searches.specs.Ordering.{at}
 use Rattle.fields.specs.Field.{fieldAt}
-use Rattle.sheet.specs.Sheet.{pointsOf, linksOf, linkStart, fromOf, toOf, beforeFrom, beforeTo, isBelow, linkFitsAt, linkFits, joined, joinedRows, placeStart, placeAt, placeFits}
-use Rattle.sheet.specs.Lines.{beyond, placedBytes, Linkable, Placeable}
+use Rattle.sheet.specs.Sheet.{isBelow, linkFitsAt, joined}
+use Rattle.sheet.specs.Parsing.{halted, begun, headRead, linkAdded, linkRead, placeAdded, placeRead, endRead, nextLine}
+use Rattle.sheet.specs.declared.lines.Parsed.{Parsed}
 
--- the test holds at all of the first j
-abbrev pub AllGood : (ℕ → Bool) → ℕ → Type 0
-AllGood f j = (x : ℕ) → x < j → T (f x)
+pub record Chosen {A : Type 0} (test : Bool) (x y chosen : A) : Type 0 where
+  pub same : cond test x y ≡ chosen
 
-good-next : (f : ℕ → Bool) (j : ℕ) → AllGood f j → T (f j) → AllGood f (suc j)
-good-next f j good t x l = go (below-suc j x l)
-  where
-    go : (x < j) ⊎ (x ≡ j) → T (f x)
-    go (inl h) = good x h
-    go (inr e) = subst (λ (y : ℕ). T (f y)) (sym e) t
+pub chosen-first : {A : Type 0} {test : Bool} {x y chosen : A} → Chosen test x y chosen → test ≡ true → x ≡ chosen
+chosen-first {x = x} {y = y} c holds = sym (ap (λ (t : Bool). cond t x y) holds) ∙ c .same
 
-pub all-fails : {m : ℕ} (f : ℕ → Bool) (j : ℕ) → j < m → (T (f j) → ⊥) → false ≡ allBelow m f
-all-fails {m} f j l out = sym (is-false (allBelow m f) (λ t. out (all-out m f t j l)))
+pub chosen-second : {A : Type 0} {test : Bool} {x y chosen : A} → Chosen test x y chosen → test ≡ false → y ≡ chosen
+chosen-second {x = x} {y = y} c fails = sym (ap (λ (t : Bool). cond t x y) fails) ∙ c .same
 
-pub all-holds : {m j : ℕ} (f : ℕ → Bool) → m ≤ j → AllGood f j → true ≡ allBelow m f
-all-holds {m} f l good = sym (is-true (allBelow m f) (all-in m f (λ i h. good i (omega arith))))
+-- the two rows of a link, written one after the other
+pub joined-as : (u v : ℕ) (rows : List ℕ) {x y : ℕ} → x ≡ inserted (at rows u) v → y ≡ inserted (at (set rows u x) v) u → set (set rows u x) v y ≡ joined u v rows
+unfolding joined
+joined-as u v rows {x} at-x at-y =
+    ap (λ (y : ℕ). set (set rows u x) v y) at-y ∙ ap (λ (x : ℕ). set (set rows u x) v (inserted (at (set rows u x) v) u)) at-x
 
--- ---- links
+module _ (b : List ℕ) (i : ℕ) (p : Parsed) where
+  -- ---- line 1
 
-pub record Linking (b : List ℕ) (m : ℕ) (rows : List ℕ) (i p q j : ℕ) : Type 0 where
-  pub upto : j ≤ m
-  pub place : i ≡ linkStart j
-  pub after-from : p ≡ beforeFrom b j
-  pub after-to : q ≡ beforeTo b j
-  pub joined-so : rows ≡ joinedRows b j
-  pub good : AllGood (linkFits b) j
+  abbrev pub Headed : (n m k e : ℕ) → Type 0
+  Headed n m k e = Chosen (((ltb n 10000 && ltb m 10000) && ltb k 10000) && eqb e 10) (begun n m k p) (halted p) (headRead b i p)
 
-module _ (b : List ℕ) (n m : ℕ) where
-  pub linking-start : {rows : List ℕ} → Linkable b n m rows → Linking b m rows 13 0 0 0
-  unfolding linkStart beforeFrom beforeTo joinedRows
-  linking-start x = record { upto = omega arith; place = refl; after-from = refl; after-to = refl; joined-so = x .empty; good = λ y l. absurd (omega arith) }
+  pub headed-read : {n m k e : ℕ} → n ≡ fieldAt b i → m ≡ fieldAt b (i + 4) → k ≡ fieldAt b (i + 8) → e ≡ at b (i + 12) → Headed n m k e
+  unfolding headRead
+  headed-read {n} {m} {k} {e} at-n at-m at-k at-e =
+      let line : ℕ → ℕ → ℕ → ℕ → Parsed = λ x y z w. cond (((ltb x 10000 && ltb y 10000) && ltb z 10000) && eqb w 10) (begun x y z p) (halted p) in
+      record { same = ap₂ (λ (x y : ℕ). line x y k e) at-n at-m ∙ ap₂ (λ (z w : ℕ). line (fieldAt b i) (fieldAt b (i + 4)) z w) at-k at-e }
 
-  pub link-same : {rows : List ℕ} {i p q j : ℕ} → n ≡ pointsOf b → Linking b m rows i p q j → linkFitsAt b i n p q ≡ linkFits b j
-  unfolding linkFits
-  link-same {i = i} {p = p} {q = q} {j = j} e r =
-      ap₂ (λ (y z : ℕ). linkFitsAt b y z p q) (r .place) e ∙ ap₂ (λ (y z : ℕ). linkFitsAt b (linkStart j) (pointsOf b) y z) (r .after-from) (r .after-to)
+  -- line 1 with so many steps behind it
+  abbrev begunWith : ℕ → ℕ → ℕ → ℕ → Parsed
+  begunWith n m k rest =
+      record {
+        good = 1;
+        sound = not (ltb 64 n || ltb n k);
+        width = 13;
+        rest = rest;
+        content = record { n = n; m = m; k = k; from = 0; to = 0; outside = false; rows = p .content .rows; ordering = p .content .ordering };
+      }
 
-  -- the points of a link fit the rows
-  pub link-small : (i p q : ℕ) → n ≤ 64 → T (linkFitsAt b i n p q) → (fieldAt b i < 64) × (fieldAt b (i + 4) < 64)
-  unfolding linkFitsAt
-  link-small i p q few t =
-      let up = ltb (fieldAt b i) (fieldAt b (i + 4)) in
-      let inside = ltb (fieldAt b (i + 4)) n in
-      let ends = eqb (at b (i + 4 + 4)) 10 in
-      let line = and-out (up && inside && ends) (isBelow p q (fieldAt b i) (fieldAt b (i + 4))) t .0 in
-      let both = and-out up inside (and-out (up && inside) ends line .0) in
-      let a = ltb→lt (fieldAt b i) (fieldAt b (i + 4)) (both .0) in
-      let c = ltb→lt (fieldAt b (i + 4)) n (both .1) in
-      (omega arith, omega arith)
+  pub headed-by : {n m k : ℕ} {fits large : Bool} → Chosen fits (begun n m k p) (halted p) (headRead b i p) → fits ≡ true → (ltb 64 n || ltb n k) ≡ large
+      → begunWith n m k (cond large 0 (m + k + 1)) ≡ headRead b i p
+  unfolding begun
+  headed-by {n} {m} {k} line t same = sym (ap (λ (large : Bool). begunWith n m k (cond large 0 (m + k + 1))) same) ∙ chosen-first line t
 
-  pub linking-next : {rows : List ℕ} {i p q j u v i′ : ℕ} (rows′ : List ℕ) → Linking b m rows i p q j → j < m → T (linkFits b j)
-      → u ≡ fieldAt b i → v ≡ fieldAt b (i + 4) → i′ ≡ i + 4 + 4 + 1 → rows′ ≡ joined u v rows → Linking b m rows′ i′ u v (j + 1)
-  unfolding linkStart fromOf toOf beforeFrom beforeTo joinedRows
-  linking-next {rows} {i} {p} {q} {j} {u} {v} {i′} rows′ r l t at-u at-v at-i at-rows =
-      let from : u ≡ fromOf b j = at-u ∙ ap (λ (y : ℕ). fieldAt b y) (r .place) in
-      let to : v ≡ toOf b j = at-v ∙ ap (λ (y : ℕ). fieldAt b (y + 4)) (r .place) in
-      let next : suc j ≡ j + 1 = omega arith in
-      subst (λ (x : ℕ). Linking b m rows′ i′ u v x) next (record {
-        upto = l;
-        place = at-i ∙ (let here : i ≡ 13 + 9 * j = r .place in omega arith);
-        after-from = from;
-        after-to = to;
-        joined-so =
-            at-rows ∙ ap₂ (λ (y z : ℕ). joined y z rows) from to ∙ ap (λ (x : List ℕ). joined (fromOf b j) (toOf b j) x) (r .joined-so);
-        good = good-next (linkFits b) j (r .good) t;
-      })
+  -- ---- links
 
--- ---- places
+  abbrev pub Linked : (u v e : ℕ) → Type 0
+  Linked u v e = Chosen (((ltb u v && ltb v (p .content .n)) && eqb e 10) && isBelow (p .content .from) (p .content .to) u v) (linkAdded u v p) (halted p) (linkRead b i p)
 
-pub record Placing (b : List ℕ) (n k : ℕ) (walk : List ℕ) (i : ℕ) (outside : Bool) (j : ℕ) : Type 0 where
-  pub upto : j ≤ k
-  pub place : i ≡ placeStart b j
-  pub seen : outside ≡ anyBelow j (beyond n b)
-  pub bytes : walk ≡ placedBytes b j
-  pub good : AllGood (placeFits b) j
+  pub linked-read : {u v e : ℕ} → u ≡ fieldAt b i → v ≡ fieldAt b (i + 4) → e ≡ at b (i + 4 + 4) → Linked u v e
+  unfolding linkRead linkFitsAt
+  linked-read {u} {v} {e} at-u at-v at-e =
+      let line : ℕ → ℕ → ℕ → Parsed =
+      λ x y z. cond (((ltb x y && ltb y (p .content .n)) && eqb z 10) && isBelow (p .content .from) (p .content .to) x y) (linkAdded x y p) (halted p) in
+      record { same = ap₂ (λ (x y : ℕ). line x y e) at-u at-v ∙ ap (λ (z : ℕ). line (fieldAt b i) (fieldAt b (i + 4)) z) at-e }
 
-module _ (b : List ℕ) (n k : ℕ) where
-  pub placing-start : {start : ℕ} {walk : List ℕ} → Placeable b start k walk → Placing b n k walk start false 0
-  unfolding placeStart anyBelow placedBytes
-  placing-start x = record {
-    upto = omega arith;
-    place = x .begins ∙ omega arith;
-    seen = refl;
-    bytes = x .empty;
-    good = λ y l. absurd (omega arith);
-  }
+  -- a link with the rows that it leaves
+  abbrev grownWith : ℕ → ℕ → List ℕ → Parsed
+  grownWith u v rows =
+      record {
+        good = p .good + 1;
+        sound = true;
+        width = 9;
+        rest = p .rest;
+        content =
+            record {
+              n = p .content .n;
+              m = p .content .m;
+              k = p .content .k;
+              from = u;
+              to = v;
+              outside = p .content .outside;
+              rows = rows;
+              ordering = p .content .ordering;
+            };
+      }
 
-  pub place-same : {walk : List ℕ} {i j v e : ℕ} {outside : Bool} → Placing b n k walk i outside j → v ≡ fieldAt b i → e ≡ at b (i + 4)
-      → (ltb v 10000 && eqb e 10) ≡ placeFits b j
-  unfolding placeFits placeAt
-  place-same {i = i} r at-v at-e =
-      ap₂ (λ (y z : ℕ). ltb y 10000 && eqb z 10) (at-v ∙ ap (λ (y : ℕ). fieldAt b y) (r .place)) (at-e ∙ ap (λ (y : ℕ). at b (y + 4)) (r .place))
+  pub linked-by : {u v : ℕ} {fits : Bool} {rows : List ℕ} → Chosen fits (linkAdded u v p) (halted p) (linkRead b i p) → fits ≡ true → rows ≡ joined u v (p .content .rows)
+      → grownWith u v rows ≡ linkRead b i p
+  unfolding linkAdded
+  linked-by {u} {v} line t same = ap (λ (x : List ℕ). grownWith u v x) same ∙ chosen-first line t
 
-  pub placing-next : {walk : List ℕ} {i j v i′ : ℕ} {outside : Bool} (walk′ : List ℕ) (outside′ : Bool) → Placing b n k walk i outside j → j < k → T (placeFits b j)
-      → v ≡ fieldAt b i → i′ ≡ i + 4 + 1 → outside′ ≡ (outside || leb n v) → walk′ ≡ set walk j (v % 256)
-      → Placing b n k walk′ i′ outside′ (j + 1)
-  unfolding placeStart placeAt anyBelow beyond placedBytes
-  placing-next {walk} {i} {j} {v} {i′} {outside} walk′ outside′ r l t at-v at-i at-outside at-walk =
-      let here : v ≡ placeAt b j = at-v ∙ ap (λ (y : ℕ). fieldAt b y) (r .place) in
-      let next : suc j ≡ j + 1 = omega arith in
-      subst (λ (x : ℕ). Placing b n k walk′ i′ outside′ x) next (record {
-        upto = l;
-        place = at-i ∙ (let now-at : i ≡ linkStart (linksOf b) + 5 * j = r .place in omega arith);
-        seen = at-outside ∙ ap₂ (λ (x : Bool) (y : ℕ). x || leb n y) (r .seen) here ∙ or-comm (anyBelow j (beyond n b)) (leb n (placeAt b j));
-        bytes = at-walk ∙ ap₂ (λ (x : List ℕ) (y : ℕ). set x j (y % 256)) (r .bytes) here;
-        good = good-next (placeFits b) j (r .good) t;
-      })
+  -- ---- places
+
+  pub placed-read : {v e : ℕ} → v ≡ fieldAt b i → e ≡ at b (i + 4) → Chosen (ltb v 10000 && eqb e 10) (placeAdded v p) (halted p) (placeRead b i p)
+  unfolding placeRead
+  placed-read at-v at-e = record { same = ap₂ (λ (x y : ℕ). cond (ltb x 10000 && eqb y 10) (placeAdded x p) (halted p)) at-v at-e }
+
+-- ---- what the tests say
+
+-- the numbers of line 1 have four columns
+pub head-small : (n m k : ℕ) (ends : Bool) → (((ltb n 10000 && ltb m 10000) && ltb k 10000) && ends) ≡ true → (m < 10000) × (k < 10000)
+head-small n m k ends t =
+    let numbers = and-out ((ltb n 10000 && ltb m 10000) && ltb k 10000) ends (subst (λ (x : Bool). T x) (sym t) tt) .0 in
+    let two = and-out (ltb n 10000 && ltb m 10000) (ltb k 10000) numbers in
+    (ltb→lt m 10000 (and-out (ltb n 10000) (ltb m 10000) (two .0) .1), ltb→lt k 10000 (two .1))
+
+-- the points of a link fit the rows
+pub link-small : (u v n : ℕ) (ends later : Bool) → n ≤ 64 → (((ltb u v && ltb v n) && ends) && later) ≡ true → (u < 64) × (v < 64)
+link-small u v n ends later few t =
+    let line = and-out ((ltb u v && ltb v n) && ends) later (subst (λ (x : Bool). T x) (sym t) tt) .0 in
+    let both = and-out (ltb u v) (ltb v n) (and-out (ltb u v && ltb v n) ends line .0) in
+    let a = ltb→lt u v (both .0) in
+    let c = ltb→lt v n (both .1) in
+    (omega arith, omega arith)
+
+-- ---- the line that is due
+
+module _ (b : List ℕ) (i : ℕ) (p : Parsed) where
+  abbrev behindLinks : Parsed
+  behindLinks = cond (leb (p .good) (p .content .m + p .content .k)) (placeRead b i p) (endRead b i p)
+
+  abbrev behindFirst : Parsed
+  behindFirst = cond (leb (p .good) (p .content .m)) (linkRead b i p) behindLinks
+
+  pub due : Chosen (not (p .sound)) (halted p) (cond (eqb (p .good) 0) (headRead b i p) behindFirst) (nextLine b i p)
+  unfolding nextLine
+  due = record { same = refl }
+
+  pub first-due : not (p .sound) ≡ false → Chosen (eqb (p .good) 0) (headRead b i p) behindFirst (nextLine b i p)
+  first-due sound = record { same = chosen-second due sound }
+
+  pub link-due : not (p .sound) ≡ false → (p .good ≡ 0 → ⊥) → Chosen (leb (p .good) (p .content .m)) (linkRead b i p) behindLinks (nextLine b i p)
+  link-due sound some = record { same = chosen-second (first-due sound) (ne-eqb (p .good) 0 some) }
+
+  abbrev pub AtPlaces : Type 0
+  AtPlaces = Chosen (leb (p .good) (p .content .m + p .content .k)) (placeRead b i p) (endRead b i p) (nextLine b i p)
+
+  pub place-due : not (p .sound) ≡ false → (p .good ≡ 0 → ⊥) → p .content .m < p .good → AtPlaces
+  place-due sound some past = record { same = chosen-second (link-due sound some) (lt-leb (p .good) (p .content .m) past) }

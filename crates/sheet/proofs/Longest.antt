@@ -5,10 +5,11 @@
 --   links-most             at most 2016 where there are at most 64 points
 --   longest-links          a sheet that is not refused has at most n (n - 1) / 2 links
 --   longest-sheet          and at most `longest` bytes;   formed-short   as has every sheet whose lines have the form
+--   longest-plan           a valid graph of n vertices has at most n (n - 1) / 2 links
 --   longest-written        the sheet of a valid graph and a walk of it has at most `longest` bytes
 -- Assumes nothing.
 use Prim.Native.Nat.{ℕ, zero, suc, _+_, _-_, _*_, _^_, _≤_, _<_}
-use mathlib.Core.Path.{_≡_, refl, ap, _∙_}
+use mathlib.Core.Path.{_≡_, refl, ap, _∙_, subst}
 use mathlib.Core.Bool.{_&&_}
 use mathlib.Core.Logic.{_⊎_, inl, inr}
 use mathlib.Core.List.{List}
@@ -24,10 +25,10 @@ use Rattle.searches.specs.Ordering.{at}
 use Rattle.searches.specs.Answer.{judgeTests, Accepts}
 use Rattle.sheet.specs.Sheet.{pointsOf, linksOf, placesOf, linkStart, fromOf, toOf, beforeFrom, beforeTo, linkFits}
 use Rattle.sheet.specs.Sheet.{placeStart, placeFits, formed, readAnswer}
-use Rattle.sheet.specs.Written.{sheetOf, longest}
+use Rattle.sheet.specs.Written.{linkList, sheetOf, longest}
 use Rattle.sheet.proofs.Accepted.{Line, line-out, accepted-out}
 use Rattle.sheet.proofs.Links.{below-out}
-use Rattle.sheet.proofs.RoundTrip.{reads-back}
+use Rattle.sheet.proofs.RoundTrip.{reads-back, links-long}
 
 -- ---- pairs
 
@@ -123,5 +124,13 @@ module _ (b : List ℕ) (read : readAnswer b ≡ none) where
   pub longest-sheet : length b ≤ longest
   longest-sheet = let x = accepted-out b read in lines-short b (x .points) (x .places) (x .link-lines) (x .long)
 
-pub longest-written : (kind : ℕ) (rows w : List ℕ) → Accepts (judgeTests kind rows w) → ((u : ℕ) → u < length rows → at rows u < 2 ^ 64) → length (sheetOf rows w) ≤ longest
-longest-written kind rows w valid words = longest-sheet (sheetOf rows w) (reads-back kind rows w valid words .answer)
+module _ (kind : ℕ) (rows w : List ℕ) (valid : Accepts (judgeTests kind rows w)) (words : (u : ℕ) → u < length rows → at rows u < 2 ^ 64) where
+  pub longest-plan : 2 * length (linkList rows) ≤ length rows * (length rows - 1)
+  longest-plan =
+      let b = sheetOf rows w in
+      let r = reads-back kind rows w valid words in
+      let links : linksOf b ≡ length (linkList rows) = links-long b (accepted-out b (r .answer)) ∙ ap (λ (x : List ℕ). length (linkList x)) (r .graph) in
+      subst (λ (n : ℕ). 2 * length (linkList rows) ≤ n * (n - 1)) (r .points) (subst (λ (m : ℕ). 2 * m ≤ pointsOf b * (pointsOf b - 1)) links (longest-links b (r .answer)))
+
+  pub longest-written : length (sheetOf rows w) ≤ longest
+  longest-written = longest-sheet (sheetOf rows w) (reads-back kind rows w valid words .answer)

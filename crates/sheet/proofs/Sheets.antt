@@ -4,29 +4,26 @@
 --   outside-same, repeated-same      refusals 8 and 9 on them
 --   headed-links, all-inside         what line 1, and the places, say of their numbers
 --   held-of                          what is held, part by part
---   joined-length, points-few, places-few, places-points, walk-read   what is known of a sheet that is read
---   not-both                         an answer is a refusal or none
---   formed-in, links-unformed, places-unformed, end-unformed   the parts of the form
+--   points-few, places-few, places-points, walk-read   what is known of a sheet that is read
+--   refused-late                     what an 11 says where line 1 has the form
 -- Assumes nothing.
 use Prim.Native.Nat.{ℕ, zero, suc, _+_, _%_, _≤_, _<_}
 use mathlib.Core.Path.{_≡_, refl, sym, ap, ap₂, _∙_, subst}
-use mathlib.Core.Bool.{Bool, true, false, not, _&&_}
+use mathlib.Core.Bool.{Bool, false, _&&_}
 use mathlib.Core.Logic.{_⊎_, inl, inr}
 use mathlib.Core.List.{List, [], _∷_, _++_}
-use mathlib.Core.Option.{Option, none, some}
+use mathlib.Core.Option.{none, some}
 use native.Mathlib.Omega.{arith}
-use lib.Dec.{T, ltb, eqb, leb, ltb→lt, nltb→le, le→leb, not-T}
-use borrow.Author.Tests.{eq-eqb, ne-eqb}
+use lib.Dec.{T, ltb, eqb, leb, ltb→lt, nltb→le, le→leb, not-T, T-not}
 use lib.ListN.{length, take, set, length-append, length-set, length-replicate, List·getD-append}
 use lib.Seq.{getD-set-same, getD-set-other, getD-at, getD-take, length-take-le, ext-getD}
-use Rattle.bitset.specs.Below.{anyBelow, allBelow}
-use Rattle.bitset.specs.Word.{inserted}
+use Rattle.bitset.specs.Below.{anyBelow}
 use Rattle.bitset.proofs.Tests.{and-out, is-false, below-or, below-suc}
 use Rattle.bitset.proofs.Below.{any-at, any-same}
 use Rattle.searches.specs.Ordering.{at}
-use Rattle.searches.specs.Answer.{vertexOutside, repeated, Accepts}
-use Rattle.searches.proofs.Refusals.{none-accepts}
-use Rattle.sheet.specs.Sheet.{pointsOf, linksOf, placesOf, headed, fromOf, toOf, linkFits, joined, walkOf, sheetTests, readAnswer, placeStart, placeAt, placeFits, formed, tabulate, joinedRows}
+use Rattle.searches.specs.Answer.{vertexOutside, repeated, Accepts, Refuses}
+use Rattle.searches.proofs.Refusals.{none-accepts, first-refuses}
+use Rattle.sheet.specs.Sheet.{pointsOf, linksOf, placesOf, headed, walkOf, sheetTests, readAnswer, placeAt, formed, tabulate, joinedRows}
 use Rattle.sheet.specs.Lines.{beyond, placedBytes, heldUnless}
 
 module _ (f : ℕ → ℕ) where
@@ -82,36 +79,7 @@ module _ (b : List ℕ) where
       same : (p : ℕ) → p < k → at (placedBytes b k) p ≡ at (tabulate k (placeAt b)) p
       same p l = byte-point k p h l (small p l) ∙ sym (tabulate-at (placeAt b) k p l)
 
-  -- ---- the parts of the form
-
-  pub formed-in : true ≡ allBelow (linksOf b) (linkFits b) → true ≡ allBelow (placesOf b) (placeFits b) → length b ≡ placeStart b (placesOf b) → not (formed b) ≡ false
-  unfolding formed
-  formed-in links places ends =
-      ap not (ap₂ (λ (x y : Bool). (x && y) && eqb (length b) (placeStart b (placesOf b))) (sym links) (sym places) ∙ eq-eqb (length b) (placeStart b (placesOf b)) ends)
-
-  pub links-unformed : false ≡ allBelow (linksOf b) (linkFits b) → not (formed b) ≡ true
-  unfolding formed
-  links-unformed links =
-      ap (λ (x : Bool). not ((x && allBelow (placesOf b) (placeFits b)) && eqb (length b) (placeStart b (placesOf b)))) (sym links)
-
-  pub places-unformed : true ≡ allBelow (linksOf b) (linkFits b) → false ≡ allBelow (placesOf b) (placeFits b) → not (formed b) ≡ true
-  unfolding formed
-  places-unformed links places = ap₂ (λ (x y : Bool). not ((x && y) && eqb (length b) (placeStart b (placesOf b)))) (sym links) (sym places)
-
-  pub end-unformed : true ≡ allBelow (linksOf b) (linkFits b) → true ≡ allBelow (placesOf b) (placeFits b) → (length b ≡ placeStart b (placesOf b) → ⊥) → not (formed b) ≡ true
-  unfolding formed
-  end-unformed links places other =
-      ap not (ap₂ (λ (x y : Bool). (x && y) && eqb (length b) (placeStart b (placesOf b))) (sym links) (sym places) ∙ ne-eqb (length b) (placeStart b (placesOf b)) other)
-
--- ---- answers
-
-abbrev Unrefused : Option ℕ → Type 0
-Unrefused none = Unit {0}
-Unrefused (some r) = ⊥
-
--- what is refused is not let through
-pub not-both : {r : ℕ} {answer : Option ℕ} → some r ≡ answer → none ≡ answer → ⊥
-not-both refused accepted = subst (λ (x : Option ℕ). Unrefused x) (accepted ∙ sym refused) tt
+-- ---- what the tests say
 
 -- line 1 has numbers
 pub headed-links : (b : List ℕ) → T (headed b) → linksOf b < 10000
@@ -138,16 +106,22 @@ held-of b {n} {k} {rows} {ordering} p q r s =
     ap₂ (λ (x : ℕ) (y : List ℕ). record { n = x; rows = y; k = k; ordering = ordering }) p q
     ∙ ap₂ (λ (x : ℕ) (y : List ℕ). record { n = pointsOf b; rows = joinedRows b (linksOf b); k = x; ordering = y }) r s
 
--- ---- a sheet that is read
+-- a sheet that is refused with 11 although line 1 has the form has few points, no more places, and a later line that is malformed
+pub refused-late : (b : List ℕ) → readAnswer b ≡ some 11 → T (headed b) → (pointsOf b ≤ 64) × (placesOf b ≤ pointsOf b) × (T (formed b) → ⊥)
+unfolding readAnswer sheetTests
+refused-late b e h = late (first-refuses (sheetTests b) 11 e)
+  where
+    late : Refuses 11 (sheetTests b) → (pointsOf b ≤ 64) × (placesOf b ≤ pointsOf b) × (T (formed b) → ⊥)
+    late (inl x) = absurd (T-not (headed b) (x .1) h)
+    late (inr (out, inl x)) = absurd (omega (arith, x .0))
+    late (inr (out, inr (few, inl x))) = absurd (omega (arith, x .0))
+    late (inr (out, inr (few, inr (short, inl x)))) =
+        (nltb→le 64 (pointsOf b) (not-T (ltb 64 (pointsOf b)) few), nltb→le (pointsOf b) (placesOf b) (not-T (ltb (pointsOf b) (placesOf b)) short), T-not (formed b) (x .1))
+    late (inr (out, inr (few, inr (short, inr (form, inl x))))) = absurd (omega (arith, x .0))
+    late (inr (out, inr (few, inr (short, inr (form, inr (inside, inl x)))))) = absurd (omega (arith, x .0))
+    late (inr (out, inr (few, inr (short, inr (form, inr (inside, inr x)))))) = absurd (x .1)
 
-pub joined-length : (b : List ℕ) (j : ℕ) → length (joinedRows b j) ≡ 64
-unfolding joinedRows joined
-joined-length b zero = length-replicate {A = ℕ} 64 0
-joined-length b (suc j) =
-    let rows = joinedRows b j in
-    let half = set rows (fromOf b j) (inserted (at rows (fromOf b j)) (toOf b j)) in
-    length-set half (toOf b j) (inserted (at half (toOf b j)) (fromOf b j))
-    ∙ length-set rows (fromOf b j) (inserted (at rows (fromOf b j)) (toOf b j)) ∙ joined-length b j
+-- ---- a sheet that is read
 
 module _ (b : List ℕ) (accepted : none ≡ readAnswer b) where
   tried : Accepts (sheetTests b)

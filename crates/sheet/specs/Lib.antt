@@ -1,3 +1,4 @@
 pub mod Sheet
 pub mod Lines
 pub mod Written
+pub mod Parsing

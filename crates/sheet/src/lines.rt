@@ -1,123 +1,165 @@
-// The lines of a sheet, each read from where the one before it ended.
-use fields::reader::take_byte;
-use fields::reader::take_field;
+// The lines of a sheet, each parsed from where it begins. Where that is, the reader knows.
+use fields::field::byte_at;
+use fields::field::field;
 ghost use mathlib.Core.Path.{_≡_};
-ghost use Prim.Native.Nat.{_+_, _<_};
-ghost use lib.Dec.{T};
-ghost use Rattle.bitset.specs.Below.{anyBelow, allBelow};
-ghost use Rattle.fields.specs.Field.{fieldAt};
-ghost use Rattle.sheet.specs.Sheet.{pointsOf, linksOf, placesOf, headed, linkFitsAt, linkFits, joinedRows, placeFits};
-ghost use Rattle.sheet.specs.Lines.{beyond, placedBytes, Linkable, Placeable};
+ghost use Prim.Native.Nat.{_<_};
+ghost use Rattle.sheet.specs.Parsing.{halted, headRead, linkRead, placeRead, endRead, nextLine, Sound, LinkDue, PlaceDue};
 
-// Line 1: the numbers of points, links and places, and whether it has the form.
-pub struct Header {
-    pub fits: bool,
+// What the lines so far hold. A number among the places that is no point is noted in `outside`.
+pub struct Content {
     pub n: usize,
     pub m: usize,
     pub k: usize,
-}
-
-pub fn first_line(sheet: &[u8]) -> Header
-    ensures fits { λ r. ⌜ r .fits ≡ headed (now (sheet .entry)) ⌝ }
-    ensures n { λ r. ⌜ r .n ≡ pointsOf (now (sheet .entry)) ⌝ }
-    ensures m { λ r. ⌜ r .m ≡ linksOf (now (sheet .entry)) ⌝ }
-    ensures k { λ r. ⌜ r .k ≡ placesOf (now (sheet .entry)) ⌝ }
-{
-    let n = take_field(sheet, 0);
-    let m = take_field(sheet, n.at);
-    let k = take_field(sheet, m.at);
-    let end = take_byte(sheet, k.at);
-    let numbers = ((n.number < 10000) & (m.number < 10000)) & (k.number < 10000);
-    Header {
-        fits: numbers & (end.number == 10),
-        n: n.number,
-        m: m.number,
-        k: k.number,
-    }
-}
-
-// One link: its points, whether its line has the form and comes after the pair `p`, `q`, and where the line ends.
-pub struct Link {
-    pub fits: bool,
     pub from: usize,
     pub to: usize,
-    pub at: usize,
-}
-
-fn link_line(sheet: &[u8], at: usize, n: usize, p: usize, q: usize) -> Link
-    requires { ⌜ at < 100000 ⌝ }
-    ensures fits { λ r. ⌜ r .fits ≡ linkFitsAt (now (sheet .entry)) at n p q ⌝ }
-    ensures from { λ r. ⌜ r .from ≡ fieldAt (now (sheet .entry)) at ⌝ }
-    ensures to { λ r. ⌜ r .to ≡ fieldAt (now (sheet .entry)) (at + 4) ⌝ }
-    ensures at { λ r. ⌜ r .at ≡ at + 4 + 4 + 1 ⌝ }
-{
-    let from = take_field(sheet, at);
-    let to = take_field(sheet, from.at);
-    let end = take_byte(sheet, to.at);
-    let u = from.number;
-    let v = to.number;
-    let line = ((u < v) & (v < n)) & (end.number == 10);
-    let later = (p < u) | ((p == u) & (q < v));
-    Link {
-        fits: line & later,
-        from: u,
-        to: v,
-        at: end.at,
-    }
-}
-
-// Joins the points of the first `m` links in `rows`, which come in empty; whether all their lines have the form. Where one has not,
-// `rows` are left with those before it.
-pub fn link_lines(sheet: &[u8], n: usize, m: usize, rows: &mut [u64; 64]) -> bool
-    requires { ⌜ Linkable (now sheet) n m (now rows) ⌝ }
-    ensures fits { λ r. ⌜ r ≡ allBelow m (linkFits (now (sheet .entry))) ⌝ }
-    ensures rows { λ r. ⌜ (T r → now (rows .exit) ≡ joinedRows (now (sheet .entry)) m) ⌝ }
-{
-    let mut at = 13;
-    let mut p = 0;
-    let mut q = 0;
-    for _ in 0..m {
-        let link = link_line(sheet, at, n, p, q);
-        if !link.fits {
-            return false;
-        }
-        p = link.from;
-        q = link.to;
-        rows[p] = bitset::insert(rows[p], q);
-        rows[q] = bitset::insert(rows[q], p);
-        at = link.at;
-    }
-    true
-}
-
-// What the lines of the places come to: whether all have the form, and whether a number among them is no point.
-pub struct Places {
-    pub fit: bool,
     pub outside: bool,
+    pub rows: [u64; 64],
+    pub ordering: [u8; 64],
 }
 
-// Writes the first `k` places, from the line at `start` on, to `walk`, each number by its lowest byte.
-pub fn place_lines(sheet: &[u8], start: usize, n: usize, k: usize, walk: &mut [u8; 64]) -> Places
-    requires { ⌜ Placeable (now sheet) start k (now walk) ⌝ }
-    ensures fit { λ r. ⌜ r .fit ≡ allBelow k (placeFits (now (sheet .entry))) ⌝ }
-    ensures outside { λ r. ⌜ (T (r .fit) → r .outside ≡ anyBelow k (beyond n (now (sheet .entry)))) ⌝ }
-    ensures walk { λ r. ⌜ (T (r .fit) → now (walk .exit) ≡ placedBytes (now (sheet .entry)) k) ⌝ }
+// What the lines so far come to: `good` of them have the form, and `sound` says that the next one is worth reading: none was malformed, and
+// n and k are not too large. The last one took `width` bytes; `rest` steps follow line 1, the end among them.
+pub struct Parsed {
+    pub good: usize,
+    pub sound: bool,
+    pub width: usize,
+    pub rest: usize,
+    pub content: Content,
+}
+
+// A line is malformed: what stands before it, and nothing more.
+fn halt(parsed: Parsed) -> Parsed
+    ensures { λ r. ⌜ r ≡ halted parsed ⌝ }
 {
-    let mut at = start;
-    let mut outside = false;
-    for j in 0..k {
-        let place = take_field(sheet, at);
-        let end = take_byte(sheet, place.at);
-        let v = place.number;
-        if !((v < 10000) & (end.number == 10)) {
-            return Places {
-                fit: false,
-                outside,
-            };
-        }
-        outside = outside | (n <= v);
-        walk[j] = (v % 256) as u8;
-        at = end.at;
+    let content = parsed.content;
+    Parsed {
+        good: parsed.good,
+        sound: false,
+        width: 0,
+        rest: parsed.rest,
+        content,
     }
-    Places { fit: true, outside }
+}
+
+// Line 1: the numbers of points, links and places.
+fn first_line(sheet: &[u8], at: usize, parsed: Parsed) -> Parsed
+    requires { ⌜ at < 900000 ⌝ }
+    ensures { λ r. ⌜ r ≡ headRead (now (sheet .entry)) at parsed ⌝ }
+{
+    let n = field(sheet, at);
+    let m = field(sheet, at + 4);
+    let k = field(sheet, at + 8);
+    let end = byte_at(sheet, at + 12);
+    if !((((n < 10000) & (m < 10000)) & (k < 10000)) & (end == 10)) {
+        return halt(parsed);
+    }
+    let rows = parsed.content.rows;
+    let ordering = parsed.content.ordering;
+    let content = Content {
+        n,
+        m,
+        k,
+        from: 0,
+        to: 0,
+        outside: false,
+        rows,
+        ordering,
+    };
+    let large = (64 < n) | (n < k);
+    Parsed {
+        good: 1,
+        sound: !large,
+        width: 13,
+        rest: if large { 0 } else { m + k + 1 },
+        content,
+    }
+}
+
+// A link's line: it has the form, its points are points, the smaller first, and it comes after the link before it. Its points are joined.
+fn link_line(sheet: &[u8], at: usize, parsed: Parsed) -> Parsed
+    requires { ⌜ (at < 900000) × LinkDue parsed ⌝ }
+    ensures { λ r. ⌜ r ≡ linkRead (now (sheet .entry)) at parsed ⌝ }
+{
+    let content = parsed.content;
+    let u = field(sheet, at);
+    let second = at + 4;
+    let v = field(sheet, second);
+    let end = byte_at(sheet, second + 4);
+    let line = ((u < v) & (v < content.n)) & (end == 10);
+    let later = (content.from < u) | ((content.from == u) & (content.to < v));
+    if !(line & later) {
+        return halt(parsed);
+    }
+    let mut joined = content;
+    joined.from = u;
+    joined.to = v;
+    joined.rows[u] = bitset::insert(joined.rows[u], v);
+    joined.rows[v] = bitset::insert(joined.rows[v], u);
+    Parsed {
+        good: parsed.good + 1,
+        sound: true,
+        width: 9,
+        rest: parsed.rest,
+        content: joined,
+    }
+}
+
+// A place's line. Its number goes to the ordering by its lowest byte.
+fn place_line(sheet: &[u8], at: usize, parsed: Parsed) -> Parsed
+    requires { ⌜ (at < 900000) × PlaceDue parsed ⌝ }
+    ensures { λ r. ⌜ r ≡ placeRead (now (sheet .entry)) at parsed ⌝ }
+{
+    let content = parsed.content;
+    let v = field(sheet, at);
+    let end = byte_at(sheet, at + 4);
+    if !((v < 10000) & (end == 10)) {
+        return halt(parsed);
+    }
+    let j = parsed.good - 1 - content.m;
+    let mut grown = content;
+    grown.outside = content.outside | (content.n <= v);
+    grown.ordering[j] = (v % 256) as u8;
+    Parsed {
+        good: parsed.good + 1,
+        sound: true,
+        width: 5,
+        rest: parsed.rest,
+        content: grown,
+    }
+}
+
+// Behind the last line: nothing may follow.
+fn end(sheet: &[u8], at: usize, parsed: Parsed) -> Parsed
+    ensures { λ r. ⌜ r ≡ endRead (now (sheet .entry)) at parsed ⌝ }
+{
+    let content = parsed.content;
+    Parsed {
+        good: parsed.good,
+        sound: sheet.len() == at,
+        width: 0,
+        rest: parsed.rest,
+        content,
+    }
+}
+
+// The line that is due: line 1, a link, a place, or the end; none where a line was malformed.
+pub fn next_line(sheet: &[u8], at: usize, parsed: Parsed) -> Parsed
+    requires { ⌜ (at < 900000) × Sound parsed ⌝ }
+    ensures { λ r. ⌜ r ≡ nextLine (now (sheet .entry)) at parsed ⌝ }
+{
+    if !parsed.sound {
+        return halt(parsed);
+    }
+    let good = parsed.good;
+    let content = parsed.content;
+    if good == 0 {
+        return first_line(sheet, at, parsed);
+    }
+    if good <= content.m {
+        return link_line(sheet, at, parsed);
+    }
+    if good <= content.m + content.k {
+        return place_line(sheet, at, parsed);
+    }
+    end(sheet, at, parsed)
 }

@@ -1,13 +1,15 @@
 // A sheet read into rows and an ordering.
-use crate::lines;
+use crate::lines::Content;
+use crate::lines::Parsed;
+use crate::reader;
 use searches::Outcome;
 use searches::Refusal;
 ghost use mathlib.Core.Path.{_≡_};
-ghost use mathlib.Core.Option.{none};
-ghost use lib.ListN.{replicate};
 ghost use Rattle.searches.specs.Answer.{refusalOf};
-ghost use Rattle.sheet.specs.Sheet.{linksOf, placesOf, pointsOf, joinedRows, readAnswer};
-ghost use Rattle.sheet.specs.Lines.{placedBytes, heldIn};
+ghost use Rattle.searches.specs.declared.Outcome.{Outcome};
+ghost use Rattle.sheet.specs.Sheet.{readAnswer, stoppedIn};
+ghost use Rattle.sheet.specs.Lines.{heldIn};
+ghost use Rattle.sheet.specs.Parsing.{parsedAnswer, parsedLine, Readable};
 
 // What a sheet holds: `n` rows, and the first `k` entries of an ordering; 0 behind both.
 pub struct Held {
@@ -17,92 +19,58 @@ pub struct Held {
     pub ordering: [u8; 64],
 }
 
-// What a sheet holds, or why it is refused; then nothing is held.
+// What a sheet holds, or why it is refused; then nothing is held. Where it is refused with 11, `line` is the one in which it stops having
+// the form, counted from 1; else it is 0.
 pub struct Reading {
     pub held: Held,
     pub outcome: Outcome,
+    pub line: usize,
 }
 
-// How many points and places a sheet has, and the first of refusals 11, 2, 6, 11, 8 and 9 that applies to it, else `Done`.
-struct Counts {
-    n: usize,
-    k: usize,
+// The first of refusals 11, 2, 6, 11, 8 and 9 that applies, else `Done`, and the line of an 11.
+struct Answer {
     outcome: Outcome,
+    line: usize,
 }
 
-fn read_into(sheet: &[u8], rows: &mut [u64; 64], ordering: &mut [u8; 64]) -> Counts
-    requires { ⌜ (now rows ≡ replicate 64 0) × (now ordering ≡ replicate 64 0) ⌝ }
-    ensures answer { λ r. ⌜ refusalOf (r .outcome) ≡ readAnswer (now (sheet .entry)) ⌝ }
-    ensures n { λ r. ⌜ r .n ≡ pointsOf (now (sheet .entry)) ⌝ }
-    ensures k { λ r. ⌜ r .k ≡ placesOf (now (sheet .entry)) ⌝ }
-    ensures rows { λ r. ⌜ (none ≡ readAnswer (now (sheet .entry)) → now (rows .exit) ≡ joinedRows (now (sheet .entry)) (linksOf (now (sheet .entry)))) ⌝ }
-    ensures ordering { λ r. ⌜ (none ≡ readAnswer (now (sheet .entry)) → now (ordering .exit) ≡ placedBytes (now (sheet .entry)) (placesOf (now (sheet .entry)))) ⌝ }
+fn decide(parsed: Parsed) -> Answer
+    requires { ⌜ Readable parsed ⌝ }
+    ensures answer { λ r. ⌜ refusalOf (r .outcome) ≡ parsedAnswer parsed ⌝ }
+    ensures line { λ r. ⌜ r .line ≡ parsedLine (parsedAnswer parsed) parsed ⌝ }
 {
-    let first = lines::first_line(sheet);
-    let n = first.n;
-    let m = first.m;
-    let k = first.k;
-    if !first.fits {
-        return Counts {
-            n,
-            k,
-            outcome: Outcome::Refused(Refusal::MalformedSheet),
-        };
+    let good = parsed.good;
+    let content = parsed.content;
+    let ordering = content.ordering;
+    if good == 0 {
+        return refused(Refusal::MalformedSheet, 1);
     }
-    if 64 < n {
-        return Counts {
-            n,
-            k,
-            outcome: Outcome::Refused(Refusal::TooManyVertices),
-        };
+    if 64 < content.n {
+        return refused(Refusal::TooManyVertices, 0);
     }
-    if n < k {
-        return Counts {
-            n,
-            k,
-            outcome: Outcome::Refused(Refusal::OrderingTooLong),
-        };
+    if content.n < content.k {
+        return refused(Refusal::OrderingTooLong, 0);
     }
-    if !lines::link_lines(sheet, n, m, rows) {
-        return Counts {
-            n,
-            k,
-            outcome: Outcome::Refused(Refusal::MalformedSheet),
-        };
+    if !parsed.sound {
+        return refused(Refusal::MalformedSheet, good + 1);
     }
-    let places = lines::place_lines(sheet, 13 + 9 * m, n, k, ordering);
-    if !places.fit {
-        return Counts {
-            n,
-            k,
-            outcome: Outcome::Refused(Refusal::MalformedSheet),
-        };
+    if content.outside {
+        return refused(Refusal::VertexOutOfRange, 0);
     }
-    if sheet.len() != 13 + 9 * m + 5 * k {
-        return Counts {
-            n,
-            k,
-            outcome: Outcome::Refused(Refusal::MalformedSheet),
-        };
+    if checks::repeated(&ordering, content.k) {
+        return refused(Refusal::RepeatedVertex, 0);
     }
-    if places.outside {
-        return Counts {
-            n,
-            k,
-            outcome: Outcome::Refused(Refusal::VertexOutOfRange),
-        };
-    }
-    if checks::repeated(ordering, k) {
-        return Counts {
-            n,
-            k,
-            outcome: Outcome::Refused(Refusal::RepeatedVertex),
-        };
-    }
-    Counts {
-        n,
-        k,
+    Answer {
         outcome: Outcome::Done,
+        line: 0,
+    }
+}
+
+fn refused(refusal: Refusal, line: usize) -> Answer
+    ensures { λ r. ⌜ r ≡ record { outcome = Outcome.Refused refusal; line = line } ⌝ }
+{
+    Answer {
+        outcome: Outcome::Refused(refusal),
+        line,
     }
 }
 
@@ -110,11 +78,31 @@ fn read_into(sheet: &[u8], rows: &mut [u64; 64], ordering: &mut [u8; 64]) -> Cou
 pub fn read(sheet: &[u8]) -> Reading
     ensures held { λ r. ⌜ r .held ≡ heldIn (now (sheet .entry)) ⌝ }
     ensures answer { λ r. ⌜ refusalOf (r .outcome) ≡ readAnswer (now (sheet .entry)) ⌝ }
+    ensures line { λ r. ⌜ r .line ≡ stoppedIn (now (sheet .entry)) ⌝ }
 {
-    let mut rows = [0u64; 64];
-    let mut ordering = [0u8; 64];
-    let counts = read_into(sheet, &mut rows, &mut ordering);
-    let checked = counts.outcome;
+    let blank = Content {
+        n: 0,
+        m: 0,
+        k: 0,
+        from: 0,
+        to: 0,
+        outside: false,
+        rows: [0u64; 64],
+        ordering: [0u8; 64],
+    };
+    let parsed = reader::parse(
+        sheet,
+        Parsed {
+            good: 0,
+            sound: true,
+            width: 0,
+            rest: 0,
+            content: blank,
+        },
+    );
+    let answer = decide(parsed);
+    let line = answer.line;
+    let checked = answer.outcome;
     if let Outcome::Refused(refusal) = checked {
         return Reading {
             held: Held {
@@ -124,15 +112,20 @@ pub fn read(sheet: &[u8]) -> Reading
                 ordering: [0u8; 64],
             },
             outcome: Outcome::Refused(refusal),
+            line,
         };
     }
+    let content = parsed.content;
+    let rows = content.rows;
+    let ordering = content.ordering;
     Reading {
         held: Held {
-            n: counts.n,
+            n: content.n,
             rows,
-            k: counts.k,
+            k: content.k,
             ordering,
         },
         outcome: Outcome::Done,
+        line,
     }
 }

@@ -4,7 +4,7 @@ use mathlib.Core.Path.{_≡_, ap, _∙_}
 use Prim.Native.Nat.{_+_, _≤_}
 use native.Mathlib.Omega.{arith}
 use Rattle.searches.specs.Ordering.{at}
-use Rattle.fields.specs.Field.{digitOf, digitsAt}
+use Rattle.fields.specs.Field.{digitValue, digitsAt}
 use Rattle.fields.proofs.Fields.{digit-small}
 use borrow.Author.Needs.{needs}
 use Rattle.fields.proofs.field.digits.Statement.{statement}
@@ -46,15 +46,15 @@ digit-requires-4 c κs = search needs
 -- what was read in the four columns
 read : (c : tie.After-digit4)
     → let s = c .before .before .before .before .before .before .before .before .before in
-    (c .before .before .before .before .before .before .digit .result ≡ digitOf (at (s .args .sheet .now) (s .args .i)))
-    × (c .before .before .before .before .digit2 .result ≡ digitOf (at (s .args .sheet .now) (s .args .i + 1)))
-    × (c .before .before .digit3 .result ≡ digitOf (at (s .args .sheet .now) (s .args .i + 2)))
-    × (c .digit4 .result ≡ digitOf (at (s .args .sheet .now) (s .args .i + 3)))
+    (c .before .before .before .before .before .before .digit .result ≡ digitValue (at (s .args .bytes .now) (s .args .i)))
+    × (c .before .before .before .before .digit2 .result ≡ digitValue (at (s .args .bytes .now) (s .args .i + 1)))
+    × (c .before .before .digit3 .result ≡ digitValue (at (s .args .bytes .now) (s .args .i + 2)))
+    × (c .digit4 .result ≡ digitValue (at (s .args .bytes .now) (s .args .i + 3)))
 read c = (
-  c .before .before .before .before .before .before .digit .ensures ∙ ap digitOf (c .before .before .before .before .before .before .before .byte-at .ensures),
-  c .before .before .before .before .digit2 .ensures ∙ ap digitOf (c .before .before .before .before .before .byte-at2 .ensures),
-  c .before .before .digit3 .ensures ∙ ap digitOf (c .before .before .before .byte-at3 .ensures),
-  c .digit4 .ensures ∙ ap digitOf (c .before .byte-at4 .ensures),
+  c .before .before .before .before .before .before .digit .ensures ∙ ap digitValue (c .before .before .before .before .before .before .before .byte-at .ensures),
+  c .before .before .before .before .digit2 .ensures ∙ ap digitValue (c .before .before .before .before .before .byte-at2 .ensures),
+  c .before .before .digit3 .ensures ∙ ap digitValue (c .before .before .before .byte-at3 .ensures),
+  c .digit4 .ensures ∙ ap digitValue (c .before .byte-at4 .ensures),
 )
 
 small : (c : tie.After-digit4)

@@ -53,10 +53,10 @@ compared : (c : tie.After-ones-of)
     ((eqb (c .before .before .before .before .before .before .before .byte-at .result) (c .before .before .before .before .before .before .lead-of .result)
     && eqb (c .before .before .before .before .before .byte-at2 .result) (c .before .before .before .before .lead-of2 .result))
     && (eqb (c .before .before .before .byte-at3 .result) (c .before .before .lead-of3 .result) && eqb (c .before .byte-at4 .result) (c .ones-of .result)))
-    ≡ isFieldAt (now (s .args .sheet)) (s .args .i) (c .before .before .before .before .before .before .before .before .digits .result)
+    ≡ isFieldAt (now (s .args .bytes)) (s .args .i) (c .before .before .before .before .before .before .before .before .digits .result)
 compared c =
     let s = c .before .before .before .before .before .before .before .before .before .before in
-    columns (now (s .args .sheet)) (s .args .i) (c .before .before .before .before .before .before .before .before .digits .result)
+    columns (now (s .args .bytes)) (s .args .i) (c .before .before .before .before .before .before .before .before .digits .result)
     (c .before .before .before .before .before .before .before .byte-at .ensures) (c .before .before .before .before .before .byte-at2 .ensures)
     (c .before .before .before .byte-at3 .ensures) (c .before .byte-at4 .ensures)
     (c .before .before .before .before .before .before .lead-of .ensures) (c .before .before .before .before .lead-of2 .ensures)
@@ -65,12 +65,12 @@ compared c =
 returns : tie.Need-returns
 returns c =
     let s = c .before .before .before .before .before .before .before .before .before .before .before in
-    field-found (now (s .args .sheet)) (s .args .i) (c .before .before .before .before .before .before .before .before .before .digits .ensures) (said-true _ (compared (c .before)) (c .if1 .taken))
+    field-found (now (s .args .bytes)) (s .args .i) (c .before .before .before .before .before .before .before .before .before .digits .ensures) (said-true _ (compared (c .before)) (c .if1 .taken))
 
 returns-2 : tie.Need-returns-2
 returns-2 c =
     let s = c .before .before .before .before .before .before .before .before .before .before .before in
-    field-missing (now (s .args .sheet)) (s .args .i) (c .before .before .before .before .before .before .before .before .before .digits .ensures) (said-false _ (compared (c .before)) (c .if1 .left))
+    field-missing (now (s .args .bytes)) (s .args .i) (c .before .before .before .before .before .before .before .before .before .digits .ensures) (said-false _ (compared (c .before)) (c .if1 .left))
 
 pub field-spec : {M : Type 1} → statement M
 field-spec =

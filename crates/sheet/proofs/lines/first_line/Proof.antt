@@ -1,51 +1,85 @@
--- `sheet::lines::first_line` meets its contract.
+-- `sheet::lines::first_line` meets its contract: the line is what its fields and its last byte come to.
 -- Assumes nothing.
-use mathlib.Core.Path.{ap, ap₂, _∙_}
-use mathlib.Core.Bool.{Bool, _&&_}
-use Prim.Native.Nat.{ℕ, _+_}
-use lib.Dec.{ltb, eqb}
+use mathlib.Core.Path.{_∙_}
+use Prim.Native.Nat.{_<_}
 use denote.Ref.{now}
-use Rattle.searches.specs.Ordering.{at}
-use Rattle.fields.specs.Field.{fieldAt}
-use Rattle.sheet.specs.Sheet.{pointsOf, linksOf, placesOf, headed}
+use native.Mathlib.Omega.{arith}
 use borrow.Author.Needs.{needs}
+use Rattle.bitset.proofs.Tests.{not-true, not-false}
+use Rattle.sheet.proofs.LineByLine.{chosen-second, Headed, headed-read, headed-by, head-small}
 use Rattle.sheet.proofs.lines.first_line.Statement.{statement}
 use Rattle.sheet.proofs.lines.first_line.Tie as tie
 
-take-field-requires : tie.Need-take-field-requires
-take-field-requires c κs = search needs
+field-requires : tie.Need-field-requires
+field-requires c κs = search needs
 
-take-field-requires-2 : tie.Need-take-field-requires-2
-take-field-requires-2 c κs = search needs
+add-field : tie.Need-add-field
+add-field c = search needs
 
-take-field-requires-3 : tie.Need-take-field-requires-3
-take-field-requires-3 c κs = search needs
+field-requires-2 : tie.Need-field-requires-2
+field-requires-2 c κs = search needs
 
-take-byte-requires : tie.Need-take-byte-requires
-take-byte-requires c κs = search needs
+add-field-2 : tie.Need-add-field-2
+add-field-2 c = search needs
+
+field-requires-3 : tie.Need-field-requires-3
+field-requires-3 c κs = search needs
+
+add-byte-at : tie.Need-add-byte-at
+add-byte-at c = search needs
+
+byte-at-requires : tie.Need-byte-at-requires
+byte-at-requires c κs = search needs
+
+halt-requires : tie.Need-halt-requires
+halt-requires c κs = search needs
+
+-- the line is what was read
+read : (c : tie.After-byte-at)
+    → let third = c .before in
+    let first = third .before .before in
+    let s = first .before .before in
+    Headed (now (s .args .sheet)) (s .args .at) (s .args .parsed) (first .field .result) (third .before .field2 .result) (third .field3 .result) (c .byte-at .result)
+read c =
+    let third = c .before in
+    let first = third .before .before in
+    let s = first .before .before in
+    headed-read (now (s .args .sheet)) (s .args .at) (s .args .parsed) (first .field .ensures) (third .before .field2 .ensures) (third .field3 .ensures) (c .byte-at .ensures)
 
 returns : tie.Need-returns
-unfolding pointsOf linksOf placesOf headed
-returns c =
-    let end = c .before .before .before .before in
-    let third = end .before in
-    let second = third .before in
-    let first = second .before in
-    let b = now (first .before .before .args .sheet) in
-    let n = first .take-field .ensures .0 in
-    let m = second .take-field2 .ensures .0 ∙ ap (λ (i : ℕ). fieldAt b i) (first .take-field .ensures .1) in
-    let at-third = second .take-field2 .ensures .1 ∙ ap (λ (i : ℕ). i + 4) (first .take-field .ensures .1) in
-    let k = third .take-field3 .ensures .0 ∙ ap (λ (i : ℕ). fieldAt b i) at-third in
-    let at-end = third .take-field3 .ensures .1 ∙ ap (λ (i : ℕ). i + 4) at-third in
-    let e = end .take-byte .ensures .0 ∙ ap (λ (i : ℕ). at b i) at-end in
-    (ap₂ (λ (x y : Bool). x && y) (ap₂ (λ (x y : Bool). x && y) (ap₂ (λ (x y : Bool). x && y) (ap (λ (x : ℕ). ltb x 10000) n) (ap (λ (x : ℕ). ltb x 10000) m)) (ap (λ (x : ℕ). ltb x 10000) k)) (ap (λ (x : ℕ). eqb x 10) e), (n, (m, k)))
+returns c = c .halt .ensures ∙ chosen-second (read (c .before .before)) (not-true _ (c .before .if1 .taken))
+
+small : (c : tie.Else1) → let third = c .before .before in (third .before .field2 .result < 10000) × (third .field3 .result < 10000)
+small c =
+    let third = c .before .before in
+    head-small (third .before .before .field .result) (third .before .field2 .result) (third .field3 .result) _ (not-false _ (c .if1 .left))
+
+add-t53 : tie.Need-add-t53
+add-t53 c = omega (arith, small (c .before .before .before))
+
+add-t50 : tie.Need-add-t50
+add-t50 c = omega (arith, small (c .before .before .before))
+
+returns-2 : tie.Need-returns-2
+returns-2 c = headed-by _ _ _ (read (c .before .before .before .before)) (not-false _ (c .before .before .before .if1 .left)) (c .if2 .taken)
+
+returns-3 : tie.Need-returns-3
+returns-3 c = headed-by _ _ _ (read (c .before .before .before .before)) (not-false _ (c .before .before .before .if1 .left)) (c .if2 .left)
 
 pub first-line-spec : {M : Type 1} → statement M
 first-line-spec =
     tie.close
     (tie.spec
-    take-field-requires
-    take-field-requires-2
-    take-field-requires-3
-    take-byte-requires
-    returns)
+    field-requires
+    add-field
+    field-requires-2
+    add-field-2
+    field-requires-3
+    add-byte-at
+    byte-at-requires
+    halt-requires
+    returns
+    add-t53
+    add-t50
+    returns-2
+    returns-3)

@@ -1,19 +1,36 @@
--- `sheet::read::read` meets its contract: refused nothing is held, else what was read.
+-- `sheet::read::read` meets its contract: refused, nothing is held; else what was parsed is.
 -- Assumes nothing.
-use mathlib.Core.Path.{_≡_, refl, sym, ap, _∙_}
+use mathlib.Core.Path.{_≡_, sym, ap, _∙_, subst}
 use mathlib.Core.Option.{Option, none}
 use Prim.Native.Nat.{ℕ}
 use denote.Ref.{now}
 use borrow.Author.Needs.{needs}
 use Rattle.searches.specs.Answer.{refusalOf}
-use Rattle.sheet.specs.Sheet.{readAnswer}
+use Rattle.sheet.specs.Sheet.{readAnswer, stoppedIn}
 use Rattle.sheet.specs.Lines.{heldUnless, heldIn}
-use Rattle.sheet.proofs.Sheets.{held-of}
+use Rattle.sheet.specs.Parsing.{parsedOf, parsedAnswer, parsedLine, Readable}
+use Rattle.sheet.specs.declared.lines.Parsed.{Parsed}
+use Rattle.sheet.specs.declared.read.Held.{Held}
+use Rattle.sheet.proofs.Decided.{parsed-answers, parsed-stops, parsed-held, parsed-readable}
 use Rattle.sheet.proofs.read.read.Statement.{statement}
 use Rattle.sheet.proofs.read.read.Tie as tie
 
-read-into-requires : tie.Need-read-into-requires
-read-into-requires c κs = (refl, refl)
+parse-requires : tie.Need-parse-requires
+parse-requires c κs = search needs
+
+decide-requires : tie.Need-decide-requires
+decide-requires c κs = subst Readable (sym (c .parse .ensures)) (parsed-readable (now (c .before .before .args .sheet)))
+
+-- what was decided is the sheet's answer
+answered : (c : tie.After-decide)
+    → let b = now (c .before .before .before .args .sheet) in
+    (refusalOf (c .decide .result .outcome) ≡ readAnswer b) × (c .decide .result .line ≡ stoppedIn b)
+answered c =
+    let b = now (c .before .before .before .args .sheet) in
+    let whole = c .before .parse .ensures in (
+      c .decide .ensures .0 ∙ ap parsedAnswer whole ∙ parsed-answers b,
+      c .decide .ensures .1 ∙ ap (λ (p : Parsed). parsedLine (parsedAnswer p) p) whole ∙ ap (λ (answer : Option ℕ). parsedLine answer (parsedOf b)) (parsed-answers b) ∙ parsed-stops b,
+    )
 
 enum-known-checked : tie.Need-enum-known-checked
 enum-known-checked c = search needs
@@ -21,9 +38,10 @@ enum-known-checked c = search needs
 returns : tie.Need-returns
 unfolding refusalOf heldIn heldUnless
 returns c =
-    let b = now (c .before .before .before .before .before .before .before .args .sheet) in
-    let a = sym (ap refusalOf (c .before .checked .given .1)) ∙ c .before .before .before .read-into .ensures .0 in
-    (ap (λ (answer : Option ℕ). heldUnless answer b) a, a)
+    let made = c .before .before .before in
+    let b = now (made .before .before .before .args .sheet) in
+    let a = sym (ap refusalOf (c .before .checked .given .1)) ∙ answered made .0 in
+    (ap (λ (answer : Option ℕ). heldUnless answer b) a, (a, answered made .1))
 
 enum-told : tie.Need-enum-told
 enum-told c = search needs
@@ -31,10 +49,11 @@ enum-told c = search needs
 returns-2 : tie.Need-returns-2
 unfolding refusalOf heldIn
 returns-2 c =
-    let b = now (c .before .before .before .before .before .before .args .sheet) in
-    let r = c .before .before .read-into in
-    let a : none ≡ readAnswer b = sym (ap refusalOf (c .enum-told .given .1)) ∙ r .ensures .0 in
-    (held-of b (r .ensures .1 .0) (r .ensures .1 .1 .1 .0 a) (r .ensures .1 .1 .0) (r .ensures .1 .1 .1 .1 a) ∙ ap (λ (answer : Option ℕ). heldUnless answer b) a, a)
+    let made = c .before .before .before .before .before in
+    let b = now (made .before .before .before .args .sheet) in
+    let a : none ≡ readAnswer b = sym (ap refusalOf (c .before .before .before .enum-told .given .1)) ∙ answered made .0 in
+    let held : Parsed → Held = λ p. record { n = p .content .n; rows = p .content .rows; k = p .content .k; ordering = p .content .ordering } in
+    (ap held (made .before .parse .ensures) ∙ parsed-held b a ∙ ap (λ (answer : Option ℕ). heldUnless answer b) a, (a, answered made .1))
 
 pub read-spec : {M : Type 1} → statement M
-read-spec = tie.close (tie.spec read-into-requires enum-known-checked returns enum-told returns-2)
+read-spec = tie.close (tie.spec parse-requires decide-requires enum-known-checked returns enum-told returns-2)
