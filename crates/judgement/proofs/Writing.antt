@@ -1,13 +1,11 @@
 -- The judgement, written line by line.
---   judgement-fits         what is answered is no more than the output list has
+--   judgement-short        a judgement has at most 126 bytes
 --   Judging out₀ rows w out i j      the lines of the kinds below j are written, up to i;   judging-start, judging-next
 -- Assumes nothing.
 use Prim.Native.Nat.{ℕ, zero, suc, _+_, _*_, _≤_, _<_}
 use mathlib.Core.Path.{_≡_, refl, sym, ap, ap₂, _∙_, subst}
-use mathlib.Core.Bool.{Bool, true, false, cond}
 use mathlib.Core.Option.{Option, none, some}
 use mathlib.Core.List.{List}
-use lib.Dec.{T, ltb, nltb→le, not-T}
 use native.Mathlib.Omega.{arith}
 use lib.ListN.{length, length-append}
 use lib.Seq.{sets, length-sets}
@@ -15,7 +13,7 @@ use Rattle.searches.specs.Violation.{Verdict, passes, fails, refused}
 use Rattle.searches.specs.Answer.{judgeAnswer}
 use Rattle.fields.specs.Field.{field, fields, line}
 use Rattle.fields.proofs.Writing.{sets-append}
-use Rattle.judgement.specs.Judged.{judgedLine, judgedLines, judgedUnless, judgement, judgementIn, judgementLength}
+use Rattle.judgement.specs.Judged.{judgedLine, judgedLines, judgedUnless, judgement}
 use Rattle.sheet.specs.Sheet.{rowsOf, walkOf, readAnswer}
 
 -- ---- the lines of the kinds
@@ -61,25 +59,16 @@ module _ (out₀ rows w : List ℕ) where
             ∙ sym (sets-append out₀ 0 lines (judgedLine j (judgeAnswer j rows w)));
       })
 
--- a judgement fits
 lines-short : (rows w : List ℕ) (j : ℕ) → length (judgedLines rows w j) ≤ 21 * j
 unfolding judgedLines
 lines-short rows w zero = omega arith
 lines-short rows w (suc j) =
     omega (arith, length-append (judgedLines rows w j) (judgedLine j (judgeAnswer j rows w)), lines-short rows w j, line-short j (judgeAnswer j rows w))
 
-judgement-short : (b : List ℕ) (answer : Option ℕ) → length (judgedUnless answer b) ≤ 126
-unfolding judgedUnless line fields field
-judgement-short b none = lines-short (rowsOf b) (walkOf b) 6
-judgement-short b (some r) = omega arith
-
--- what is answered is no more than the list has
-pub judgement-fits : (b out : List ℕ) {out′ : List ℕ} {r : ℕ} → out′ ≡ judgementIn b out → r ≡ judgementLength b out → r ≤ length out′
-unfolding judgementIn judgementLength judgement
-judgement-fits b out {out′} {r} at-out at-r = go (ltb (length out) 126) (λ none-short. nltb→le (length out) 126 (not-T (ltb (length out) 126) none-short)) at-out at-r
+pub judgement-short : (b : List ℕ) → length (judgement b) ≤ 126
+unfolding judgement judgedUnless line fields field
+judgement-short b = go (readAnswer b)
   where
-    go : (x : Bool) → ((T x → ⊥) → 126 ≤ length out) → out′ ≡ cond x out (sets out 0 (judgedUnless (readAnswer b) b))
-        → r ≡ cond x 0 (length (judgedUnless (readAnswer b) b)) → r ≤ length out′
-    go true room p q = omega arith
-    go false room p q =
-        omega (arith, room (λ t. t), judgement-short b (readAnswer b), ap length p, length-sets out 0 (judgedUnless (readAnswer b) b))
+    go : (answer : Option ℕ) → length (judgedUnless answer b) ≤ 126
+    go none = lines-short (rowsOf b) (walkOf b) 6
+    go (some r) = omega arith

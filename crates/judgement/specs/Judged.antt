@@ -5,12 +5,14 @@
 --   room                      as many bytes as a judgement can have
 --   judgementIn b out, judgementLength b out   what an output list then holds, from its front on, and how much of it is the judgement;
 --                             as it was, and 0, where it has not that room
+--   ReadInto buffer count b   the first count bytes of the buffer are the input b, as far as the buffer has room for it
 use Prim.Native.Nat.{ℕ, zero, suc}
+use mathlib.Core.Path.{_≡_}
 use mathlib.Core.List.{List, [], _∷_, _++_}
 use mathlib.Core.Option.{Option, none, some}
 use mathlib.Core.Bool.{cond}
 use lib.Dec.{ltb}
-use lib.ListN.{length}
+use lib.ListN.{length, take}
 use lib.Seq.{sets}
 use Rattle.searches.specs.Violation.{Verdict, passes, fails, refused}
 use Rattle.searches.specs.Answer.{judgeAnswer}
@@ -42,3 +44,6 @@ judgementIn b out = cond (ltb (length out) room) out (sets out 0 (judgement b))
 
 unfoldable pub judgementLength : List ℕ → List ℕ → ℕ
 judgementLength b out = cond (ltb (length out) room) 0 (length (judgement b))
+
+pub record ReadInto (buffer : List ℕ) (count : ℕ) (b : List ℕ) : Type 0 where
+  pub as-far : take count buffer ≡ take (length buffer) b

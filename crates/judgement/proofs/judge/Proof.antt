@@ -1,34 +1,15 @@
--- `judgement::judge` meets its contract: a list without room stays; a refusal is its number; else the lines of the six kinds.
+-- `judgement::judge` meets its contract: a list without room stays, any other gets the judgement.
 -- Assumes nothing.
-use mathlib.Core.Path.{_≡_, sym, ap, ap₂, _∙_}
+use mathlib.Core.Path.{sym, ap, _∙_}
 use mathlib.Core.Bool.{Bool, cond}
-use mathlib.Core.List.{List, [], _∷_}
-use mathlib.Core.Option.{Option, none}
-use Prim.Native.Nat.{ℕ, _≤_}
 use denote.Ref.{now}
-use native.Mathlib.Omega.{arith}
 use borrow.Author.Needs.{needs}
 use borrow.Author.Tests.{lt-ltb, le-ltb}
-use lib.ListN.{length, take}
-use lib.Seq.{sets, length-take-le}
-use Rattle.searches.specs.Answer.{refusalOf, number}
-use Rattle.sheet.specs.declared.read.Held.{Held}
-use Rattle.fields.specs.Field.{field}
-use Rattle.sheet.specs.Sheet.{pointsOf, linksOf, placesOf, rowsOf, walkOf, readAnswer}
-use Rattle.sheet.specs.Lines.{heldUnless, heldIn}
-use Rattle.fields.specs.Field.{fields, line}
-use Rattle.judgement.specs.Judged.{judgedLines, judgedUnless, judgement, judgementIn, judgementLength}
-use Rattle.sheet.proofs.Sheets.{bytes-length, joined-length, points-few, places-few, walk-read}
+use lib.ListN.{length}
+use lib.Seq.{sets}
+use Rattle.judgement.specs.Judged.{judgement, judgementIn, judgementLength}
 use Rattle.judgement.proofs.judge.Statement.{statement}
 use Rattle.judgement.proofs.judge.Tie as tie
-
--- a list with room gets the judgement
-with-room : (b out : List ℕ) → 126 ≤ length out → (sets out 0 (judgement b) ≡ judgementIn b out) × (length (judgement b) ≡ judgementLength b out)
-unfolding judgementIn judgementLength
-with-room b out l = (
-  sym (ap (λ (x : Bool). cond x out (sets out 0 (judgement b))) (le-ltb (length out) 126 l)),
-  sym (ap (λ (x : Bool). cond x 0 (length (judgement b))) (le-ltb (length out) 126 l)),
-)
 
 returns : tie.Need-returns
 unfolding judgementIn judgementLength
@@ -40,127 +21,23 @@ returns c =
       sym (ap (λ (x : Bool). cond x 0 (length (judgement b))) (lt-ltb (length out) 126 (c .if1 .taken))),
     )
 
-read-requires : tie.Need-read-requires
-read-requires c κs = search needs
-
-enum-known-outcome : tie.Need-enum-known-outcome
-enum-known-outcome c = search needs
-
-number-requires : tie.Need-number-requires
-number-requires c κs = search needs
-
-cast-line-of-one : tie.Need-cast-line-of-one
-cast-line-of-one c = search needs
-
-line-of-one-requires : tie.Need-line-of-one-requires
-line-of-one-requires c κs = search needs
+write-judgement-requires : tie.Need-write-judgement-requires
+write-judgement-requires c κs = search needs
 
 same-length : tie.Need-same-length
 same-length c = search needs
 
 returns-2 : tie.Need-returns-2
-unfolding refusalOf judgement judgedUnless line fields field
+unfolding judgementIn judgementLength
 returns-2 c =
-    let args = c .before .before .before .before .before .before .before .before .before .before .before .before .before .args in
-    let b = now (args .sheet) in
-    let out = now (args .output) in
-    let e = c .before .before .line-of-one in
-    let told = sym (ap refusalOf (c .before .before .before .before .before .before .outcome .given .1)) ∙ c .before .before .before .before .before .before .before .before .before .read .ensures .1 in
-    let said = with-room b out (c .before .before .before .before .before .before .before .before .before .before .if1 .left) in (
-      e .ensures .0 ∙ ap (λ (x : ℕ). sets out 0 (line (x ∷ []))) (c .before .before .before .number .ensures) ∙ ap (λ (x : Option ℕ). sets out 0 (judgedUnless x b)) told ∙ said .0,
-      e .ensures .1 ∙ ap (λ (x : Option ℕ). length (judgedUnless x b)) told ∙ said .1,
-    )
-
-enum-told : tie.Need-enum-told
-enum-told c = search needs
-
--- what was read
-accepted : (c : tie.After-enum-told) → none ≡ readAnswer (now (c .before .before .before .before .before .before .before .args .sheet))
-unfolding refusalOf
-accepted c = sym (ap refusalOf (c .enum-told .given .1)) ∙ c .before .before .before .read .ensures .1
-
-held-is : (c : tie.After-enum-told) → c .before .before .before .read .result .held ≡ heldUnless none (now (c .before .before .before .before .before .before .before .args .sheet))
-unfolding heldIn
-held-is c = c .before .before .before .read .ensures .0 ∙ ap (λ (x : Option ℕ). heldUnless x (now (c .before .before .before .before .before .before .before .args .sheet))) (sym (accepted c))
-
-counts : (c : tie.After-enum-told) → (c .before .before .before .read .result .held .n ≡ pointsOf (now (c .before .before .before .before .before .before .before .args .sheet))) × (c .before .before .before .read .result .held .k ≡ placesOf (now (c .before .before .before .before .before .before .before .args .sheet)))
-unfolding heldUnless
-counts c = (ap (λ (h : Held). h .n) (held-is c), ap (λ (h : Held). h .k) (held-is c))
-
-few : (c : tie.After-enum-told) → (c .before .before .before .read .result .held .n ≤ 64) × (c .before .before .before .read .result .held .k ≤ 64)
-few c =
-    let b = now (c .before .before .before .before .before .before .before .args .sheet) in
-    let e = counts c in
-    (omega (arith, e .0, points-few b (accepted c)), omega (arith, e .1, points-few b (accepted c), places-few b (accepted c)))
-
-full : (c : tie.After-enum-told) → (length (c .before .before .before .read .result .held .rows) ≡ 64) × (length (c .before .before .before .read .result .held .ordering) ≡ 64)
-unfolding heldUnless
-full c =
-    let b = now (c .before .before .before .before .before .before .before .args .sheet) in
-    (ap (λ (h : Held). length (h .rows)) (held-is c) ∙ joined-length b (linksOf b), ap (λ (h : Held). length (h .ordering)) (held-is c) ∙ bytes-length b (placesOf b))
-
-array-share-prefix-rows : tie.Need-array-share-prefix-rows
-array-share-prefix-rows c = omega (arith, few (c .before .before .before) .0, full (c .before .before .before) .0)
-
-slice-aggregate-judged-lines : tie.Need-slice-aggregate-judged-lines
-slice-aggregate-judged-lines c = sym (length-take-le _ _ (omega (arith, few (c .before .before .before .before) .0, full (c .before .before .before .before) .0)))
-
-array-share-prefix-ordering : tie.Need-array-share-prefix-ordering
-array-share-prefix-ordering c = omega (arith, few (c .before .before .before .before) .1, full (c .before .before .before .before) .1)
-
-slice-aggregate-judged-lines-2 : tie.Need-slice-aggregate-judged-lines-2
-slice-aggregate-judged-lines-2 c = sym (length-take-le _ _ (omega (arith, few (c .before .before .before .before .before) .1, full (c .before .before .before .before .before) .1)))
-
-judged-lines-requires : tie.Need-judged-lines-requires
-judged-lines-requires c κs = search needs
-
-same-length-2 : tie.Need-same-length-2
-same-length-2 c = search needs
-
--- the parts that are lent on are the rows and the walk
-lent : (c : tie.After-enum-told)
-    → let b = now (c .before .before .before .before .before .before .before .args .sheet) in
-    let h = c .before .before .before .read .result .held in
-    (take (h .n) (h .rows) ≡ rowsOf b) × (take (h .k) (h .ordering) ≡ walkOf b)
-unfolding heldUnless rowsOf
-lent c = (
-  ap (λ (h : Held). take (h .n) (h .rows)) (held-is c),
-  ap (λ (h : Held). take (h .k) (h .ordering)) (held-is c) ∙ walk-read (now (c .before .before .before .before .before .before .before .args .sheet)) (accepted c),
-)
-
-returns-3 : tie.Need-returns-3
-unfolding judgement judgedUnless
-returns-3 c =
-    let args = c .before .before .before .before .before .before .before .before .before .before .before .before .before .before .before .args in
-    let b = now (args .sheet) in
-    let out = now (args .output) in
-    let e = c .before .before .judged-lines in
-    let told = c .before .before .before .before .before .before .before .before in
-    let read-so = lent told in
-    let said = with-room b out (c .before .before .before .before .before .before .before .before .before .before .before .before .if1 .left) in (
-      e .ensures .0 ∙ ap₂ (λ (r w : List ℕ). sets out 0 (judgedLines r w 6)) (read-so .0) (read-so .1)
-          ∙ ap (λ (x : Option ℕ). sets out 0 (judgedUnless x b)) (accepted told) ∙ said .0,
-      e .ensures .1 ∙ ap₂ (λ (r w : List ℕ). length (judgedLines r w 6)) (read-so .0) (read-so .1)
-          ∙ ap (λ (x : Option ℕ). length (judgedUnless x b)) (accepted told) ∙ said .1,
+    let written = c .before .before in
+    let room = written .before .before in
+    let a = room .before .before .before .args in
+    let b = now (a .sheet) in
+    let out = now (a .output) in (
+      written .write-judgement .ensures .0 ∙ sym (ap (λ (x : Bool). cond x out (sets out 0 (judgement b))) (le-ltb (length out) 126 (room .if1 .left))),
+      written .write-judgement .ensures .1 .0 ∙ sym (ap (λ (x : Bool). cond x 0 (length (judgement b))) (le-ltb (length out) 126 (room .if1 .left))),
     )
 
 pub judge-spec : {M : Type 1} → statement M
-judge-spec =
-    tie.close
-    (tie.spec
-    returns
-    read-requires
-    enum-known-outcome
-    number-requires
-    cast-line-of-one
-    line-of-one-requires
-    same-length
-    returns-2
-    enum-told
-    array-share-prefix-rows
-    slice-aggregate-judged-lines
-    array-share-prefix-ordering
-    slice-aggregate-judged-lines-2
-    judged-lines-requires
-    same-length-2
-    returns-3)
+judge-spec = tie.close (tie.spec returns write-judgement-requires same-length returns-2)
