@@ -47,16 +47,17 @@ module _ (rows w : List ℕ) (k : ℕ) (x : Judgeable rows w k) where
 
   module _ (s : Search) (j : ℕ) (stops : j ≡ firstBelow k (stopsAt s rows w)) where
     module _ (labels : List ℕ) (free : ℕ) (l : j < k) (at-labels : labels ≡ labelsAfter rows w j) (at-free : free ≡ freeAfter (length rows) w j) where
-      searchable : Searchable rows w k j
+      searchable : Searchable rows w k free j
       searchable = record {
         long = x .ordering .long;
         inside = l;
         fits = ordering-fits (length rows) (x .ordering);
         small = x .small;
         vertices = x .ordering .vertices;
+        unplaced = at-free;
       }
 
-      pub fault-there : Searchable rows w k j × T (anyBelow j (firstIn s rows w labels free j k))
+      pub fault-there : Searchable rows w k free j × T (anyBelow j (firstIn s rows w labels free j k))
       fault-there = (
         searchable,
         subst (λ (ls : List ℕ). T (anyBelow j (firstIn s rows w ls free j k))) (sym at-labels)

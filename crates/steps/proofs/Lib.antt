@@ -1,4 +1,5 @@
 pub mod Representation
 pub mod Replaying
+pub mod Completing
 pub mod Searching
 pub mod Tail

@@ -5,19 +5,23 @@
 --   stopsAt s rows w j            the vertex at position j of w is beaten when its turn comes
 --   violatesIn s rows w labels free j i c   the vertices at i and j and c are a violation, seen at j's turn
 --   lastIn, firstIn               candidate e for c, position i of a take part in one
+--   frontIn rows free a b         the free vertices that a leads to; none where it leads to b, too
+--   completesIn s labels front i mine c   c is one of `front`, and nothing in b's label `mine` excuses position i against c's
+--   behindIn .. w j p             likewise the vertex at position p of w, which is behind j
+--   lastOf .. w j k               the first such c: by position behind j, else by number
 --   firstFault s rows w labels free j k   the first violation with the vertex at position j, as judge shows it
 --   fillIn s rows t m p labels free   the m vertices chosen from position p on
 --   Replayable rows w k labels    the first k entries of w are vertices of a graph of at most 64, and the labels are empty
---   Searchable rows w k j         likewise, and j is one of the first k positions
+--   Searchable rows w k free j    likewise, j is one of the first k positions, and free the vertices that are unplaced at its turn
 --   Fillable rows tail k labels reached   tail has room for the vertices from position k on, and nobody outside `reached` has a label
 use Prim.Native.Nat.{ℕ, zero, suc, _+_, _-_, _≤_, _<_}
 use mathlib.Core.Path.{_≡_}
-use mathlib.Core.Bool.{Bool, not, _&&_}
+use mathlib.Core.Bool.{Bool, cond, not, _&&_}
 use mathlib.Core.List.{List, [], _∷_}
-use lib.Dec.{eqb}
+use lib.Dec.{eqb, ltb}
 use lib.ListN.{length, getD, replicate}
 use Rattle.bitset.specs.Below.{anyBelow, firstBelow}
-use Rattle.bitset.specs.Word.{member, removed, united, fullBelow}
+use Rattle.bitset.specs.Word.{member, removed, united, common, fullBelow}
 use Rattle.searches.specs.Kind.{Search}
 use Rattle.searches.specs.Ordering.{arcs, at}
 use Rattle.searches.specs.Violation.{third, Verdict, fails}
@@ -34,6 +38,9 @@ freeAfter n w (suc j) = removed (freeAfter n w j) (at w j)
 unfoldable pub reachedAfter : List ℕ → List ℕ → ℕ → ℕ
 reachedAfter rows w zero = 0
 reachedAfter rows w (suc j) = united (reachedAfter rows w j) (getD rows (at w j) 0)
+
+unfoldable pub frontIn : List ℕ → ℕ → ℕ → ℕ → ℕ
+frontIn rows free a b = cond (arcs rows a b) 0 (common (getD rows a 0) free)
 
 module _ (s : Search) where
   unfoldable pub stopsAt : List ℕ → List ℕ → ℕ → Bool
@@ -58,6 +65,19 @@ module _ (s : Search) where
         let i = firstBelow j (firstIn k) in
         fails (at w i) (at w j) (third w k (firstBelow (k + length rows) (lastIn k i)))
 
+  module _ (labels : List ℕ) (front i mine : ℕ) where
+    unfoldable pub completesIn : ℕ → Bool
+    completesIn c = member front c && unexcusedIn s i (getD labels c 0) mine
+
+    unfoldable pub behindIn : List ℕ → ℕ → ℕ → Bool
+    behindIn w j p = ltb j p && completesIn (at w p)
+
+    unfoldable pub lastOf : List ℕ → ℕ → ℕ → ℕ
+    lastOf w j k =
+        let p = firstBelow k (behindIn w j) in
+        let number = firstBelow 64 completesIn in
+        cond (ltb p k) (at w p) number
+
   unfoldable pub fillIn : List ℕ → List ℕ → ℕ → ℕ → List ℕ → ℕ → List ℕ
   fillIn rows t zero p labels free = []
   fillIn rows t (suc m) p labels free =
@@ -71,12 +91,13 @@ pub record Replayable (rows w : List ℕ) (k : ℕ) (labels : List ℕ) : Type 0
   pub vertices : (p : ℕ) → p < k → at w p < length rows
   pub empty : labels ≡ replicate 64 0
 
-pub record Searchable (rows w : List ℕ) (k j : ℕ) : Type 0 where
+pub record Searchable (rows w : List ℕ) (k free j : ℕ) : Type 0 where
   pub long : k ≤ length w
   pub inside : j < k
   pub fits : k ≤ length rows
   pub small : length rows ≤ 64
   pub vertices : (p : ℕ) → p < k → at w p < length rows
+  pub unplaced : free ≡ freeAfter (length rows) w j
 
 pub record Fillable (rows tail : List ℕ) (k : ℕ) (labels : List ℕ) (reached : ℕ) : Type 0 where
   pub fits : k ≤ length rows

@@ -1,19 +1,14 @@
 // The filling step of carry-on: the choice by the tie-break, again and again.
+use crate::lookup::row_of;
 use searches::Kind;
 use searches::Position;
+use searches::Vertex;
 ghost use mathlib.Core.Path.{_≡_};
 ghost use mathlib.Core.List.{_++_};
 ghost use Prim.Native.Nat.{_-_};
-ghost use lib.ListN.{length, drop, getD};
+ghost use lib.ListN.{length, drop};
 ghost use Rattle.searches.specs.Kind.{searchOf};
 ghost use Rattle.steps.specs.Steps.{fillIn, Fillable};
-
-// The row of vertex `v`; no arcs behind the last row.
-fn row_of(rows: &[u64], v: usize) -> u64
-    ensures { λ r. ⌜ r ≡ getD (now (rows .entry)) v 0 ⌝ }
-{
-    if v < rows.len() { rows[v] } else { 0 }
-}
 
 // Writes the vertices that carry on from position `k` into `tail`, whose first bytes are the positions from `k` on; `labels`, `free`
 // and `reached` are those after the first `k`.
@@ -40,7 +35,7 @@ pub fn fill(
     for i in 0..count {
         let v = labels::choice::choose(kind, labels, unplaced, met, tie_break);
         tail[i] = v;
-        let row = row_of(rows, v as usize);
+        let row = row_of(rows, Vertex(v));
         labels::spread(labels, row, Position(k + i), rows.len());
         unplaced = bitset::remove(unplaced, v as usize);
         met = bitset::union(met, row);

@@ -1,9 +1,9 @@
-// The one way from a position to a vertex: looking it up in the ordering.
+// Looking up: what stands at a position of an ordering, which is the one way from a position to a vertex, and the row of a vertex.
 use searches::Position;
 use searches::Vertex;
 ghost use mathlib.Core.Path.{_≡_};
 ghost use Prim.Native.Nat.{_<_};
-ghost use lib.ListN.{length};
+ghost use lib.ListN.{length, getD};
 ghost use Rattle.searches.specs.Ordering.{at};
 
 // The vertex at `position`.
@@ -13,4 +13,12 @@ pub fn vertex_at(ordering: &[u8], position: Position) -> Vertex
 {
     let p = position.0;
     Vertex(ordering[p])
+}
+
+// The row of `vertex`; no arcs behind the last row.
+pub fn row_of(rows: &[u64], vertex: Vertex) -> u64
+    ensures { λ r. ⌜ r ≡ getD (now (rows .entry)) (vertex .0) 0 ⌝ }
+{
+    let v = vertex.0 as usize;
+    if v < rows.len() { rows[v] } else { 0 }
 }

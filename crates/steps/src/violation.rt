@@ -1,85 +1,105 @@
-// The first violation at a vertex that was not offered.
+// The first violation at a vertex that was not offered. Its third vertex is looked for by position first, behind the middle one, and then
+// by number.
+use crate::lookup::row_of;
 use crate::lookup::vertex_at;
 use searches::Kind;
 use searches::Position;
 use searches::Vertex;
 use searches::Violation;
 ghost use mathlib.Core.Path.{_≡_};
-ghost use Prim.Native.Nat.{_+_, _<_, _≤_};
+ghost use Prim.Native.Nat.{_<_, _≤_};
 ghost use lib.ListN.{length};
 ghost use lib.Dec.{T};
 ghost use Rattle.bitset.specs.Below.{anyBelow, firstBelow};
 ghost use Rattle.searches.specs.Kind.{searchOf};
-ghost use Rattle.searches.specs.Violation.{third};
 ghost use Rattle.searches.specs.Answer.{verdictOf};
 ghost use Rattle.searches.specs.declared.Judgement.{Judgement};
-ghost use Rattle.steps.specs.Steps.{violatesIn, lastIn, firstIn, Searchable, firstFault};
+ghost use Rattle.steps.specs.Steps.{frontIn, completesIn, behindIn, lastOf, firstIn, Searchable, firstFault};
 
-// The e-th candidate for the third vertex: the placed by position, then all by number.
-fn candidate(ordering: &[u8], k: usize, e: usize) -> Vertex
-    requires { ⌜ (k ≤ length (now ordering)) × (e < k + 64) ⌝ }
-    ensures { λ r. ⌜ r .0 ≡ third (now (ordering .entry)) k e ⌝ }
+// The vertices of `free` that `a` leads to; none where `a` leads to `b`, too.
+fn front_of(rows: &[u64], free: u64, a: Vertex, b: Vertex) -> u64
+    ensures { λ r. ⌜ r ≡ frontIn (now (rows .entry)) free (a .0) (b .0) ⌝ }
 {
-    if e < k {
-        vertex_at(ordering, Position(e))
+    let row = row_of(rows, a);
+    if bitset::contains(row, b.0 as usize) {
+        0
     } else {
-        Vertex(((e - k) % 256) as u8)
+        bitset::common(row, free)
     }
 }
 
-// Whether the vertices at positions `i` and `j` and the vertex `c` are a violation, with the labels and the unplaced vertices of j's turn.
-fn is_violation(
-    kind: Kind,
-    rows: &[u64],
-    ordering: &[u8],
-    k: usize,
-    labels: &[u64; 64],
-    free: u64,
-    j: Position,
-    i: Position,
-    c: Vertex,
-) -> bool
-    requires { ⌜ Searchable (now rows) (now ordering) k (j .0) × ((i .0 < j .0) × (c .0 < 64)) ⌝ }
-    ensures { λ r. ⌜ r ≡ violatesIn (searchOf (kind .0)) (now (rows .entry)) (now (ordering .entry)) (now (labels .entry)) free (j .0) (i .0) (c .0) ⌝ }
+// Whether `c` is one of `front` and nothing in `mine` excuses position `i` against its label.
+fn completes(kind: Kind, labels: &[u64; 64], front: u64, i: Position, mine: u64, c: Vertex) -> bool
+    requires { ⌜ i .0 < 64 ⌝ }
+    ensures { λ r. ⌜ r ≡ completesIn (searchOf (kind .0)) (now (labels .entry)) front (i .0) mine (c .0) ⌝ }
 {
-    let first = vertex_at(ordering, i);
-    let middle = vertex_at(ordering, j);
-    let a = first.0 as usize;
-    let b = middle.0 as usize;
     let last = c.0 as usize;
-    let arcs = rows[a];
-    let new = bitset::contains(arcs, last) & !bitset::contains(arcs, b);
-    let later = bitset::contains(free, last) & (last != b);
-    new & later & labels::is_unexcused(kind, i, labels[last], labels[b])
+    if !bitset::contains(front, last) {
+        return false;
+    }
+    labels::is_unexcused(kind, i, labels[last], mine)
 }
 
-// The first candidate that is the third vertex of a violation with the vertices at positions `i` and `j`; `k` plus the number of vertices
-// where there is none.
-fn first_last(
+// Of the vertices that complete a violation, the one with the smallest number; 64 where there is none.
+fn first_by_number(kind: Kind, labels: &[u64; 64], front: u64, i: Position, mine: u64) -> Vertex
+    requires { ⌜ i .0 < 64 ⌝ }
+    ensures { λ r. ⌜ r .0 ≡ firstBelow 64 (completesIn (searchOf (kind .0)) (now (labels .entry)) front (i .0) mine) ⌝ }
+{
+    let mut rest = front;
+    while rest != 0 {
+        let c = bitset::smallest(rest);
+        if labels::is_unexcused(kind, i, labels[c], mine) {
+            return Vertex(c as u8);
+        }
+        rest = bitset::without_smallest(rest);
+    }
+    Vertex(64)
+}
+
+// The first position behind `j` and below `k` with a vertex that completes a violation; `k` where there is none.
+fn first_by_place(
     kind: Kind,
-    rows: &[u64],
     ordering: &[u8],
     k: usize,
     labels: &[u64; 64],
-    free: u64,
+    front: u64,
     j: Position,
     i: Position,
-) -> usize
-    requires { ⌜ Searchable (now rows) (now ordering) k (j .0) × (i .0 < j .0) ⌝ }
-    ensures { λ r. ⌜
-        r
-        ≡ firstBelow (k + length (now (rows .entry)))
-        (lastIn (searchOf (kind .0)) (now (rows .entry)) (now (ordering .entry)) (now (labels .entry)) free (j .0) k (i .0))
-        ⌝ }
+    mine: u64,
+) -> Position
+    requires { ⌜ (j .0 < k) × ((k ≤ length (now ordering)) × (i .0 < 64)) ⌝ }
+    ensures { λ r. ⌜ r .0 ≡ firstBelow k (behindIn (searchOf (kind .0)) (now (labels .entry)) front (i .0) mine (now (ordering .entry)) (j .0)) ⌝ }
 {
-    let end = k + rows.len();
-    for e in 0..end {
-        let c = candidate(ordering, k, e);
-        if is_violation(kind, rows, ordering, k, labels, free, j, i, c) {
-            return e;
+    let middle = j.0;
+    let behind = middle + 1;
+    for p in behind..k {
+        let c = vertex_at(ordering, Position(p));
+        if completes(kind, labels, front, i, mine, c) {
+            return Position(p);
         }
     }
-    end
+    Position(k)
+}
+
+// The third vertex: the first behind `j` that completes a violation, where none does the one with the smallest number.
+fn first_last(
+    kind: Kind,
+    ordering: &[u8],
+    k: usize,
+    labels: &[u64; 64],
+    front: u64,
+    j: Position,
+    i: Position,
+    mine: u64,
+) -> Vertex
+    requires { ⌜ (j .0 < k) × ((k ≤ length (now ordering)) × (i .0 < 64)) ⌝ }
+    ensures { λ r. ⌜ r .0 ≡ lastOf (searchOf (kind .0)) (now (labels .entry)) front (i .0) mine (now (ordering .entry)) (j .0) k ⌝ }
+{
+    let position = first_by_place(kind, ordering, k, labels, front, j, i, mine);
+    if position.0 < k {
+        return vertex_at(ordering, position);
+    }
+    first_by_number(kind, labels, front, i, mine)
 }
 
 // The first position of a vertex that starts a violation with the vertex at position `j`; `j` where there is none.
@@ -92,22 +112,26 @@ fn first_first(
     free: u64,
     j: Position,
 ) -> Position
-    requires { ⌜ Searchable (now rows) (now ordering) k (j .0) ⌝ }
+    requires { ⌜ Searchable (now rows) (now ordering) k free (j .0) ⌝ }
     ensures { λ r. ⌜
         r .0 ≡ firstBelow (j .0) (firstIn (searchOf (kind .0)) (now (rows .entry)) (now (ordering .entry)) (now (labels .entry)) free (j .0) k)
         ⌝ }
 {
-    let end = k + rows.len();
+    let b = vertex_at(ordering, j);
+    let mine = labels[b.0 as usize];
     let middle = j.0;
     for i in 0..middle {
-        if first_last(kind, rows, ordering, k, labels, free, j, Position(i)) < end {
+        let a = vertex_at(ordering, Position(i));
+        let front = front_of(rows, free, a, b);
+        let c = first_by_number(kind, labels, front, Position(i), mine);
+        if c.0 < 64 {
             return Position(i);
         }
     }
     j
 }
 
-// The first violation with the vertex at position `j`, which has one.
+// The first violation with the vertex at position `j`, which has one. `labels` and `free` are those of its turn.
 pub fn first_violation(
     kind: Kind,
     rows: &[u64],
@@ -117,16 +141,16 @@ pub fn first_violation(
     free: u64,
     j: Position,
 ) -> Violation
-    requires { ⌜ Searchable (now rows) (now ordering) k (j .0) × T (anyBelow (j .0) (firstIn (searchOf (kind .0)) (now rows) (now ordering) (now labels) free (j .0) k)) ⌝ }
+    requires { ⌜ Searchable (now rows) (now ordering) k free (j .0) × T (anyBelow (j .0) (firstIn (searchOf (kind .0)) (now rows) (now ordering) (now labels) free (j .0) k)) ⌝ }
     ensures { λ r. ⌜
         verdictOf (Judgement.Fails r)
         ≡ firstFault (searchOf (kind .0)) (now (rows .entry)) (now (ordering .entry)) (now (labels .entry)) free (j .0) k
         ⌝ }
 {
     let i = first_first(kind, rows, ordering, k, labels, free, j);
-    let e = first_last(kind, rows, ordering, k, labels, free, j, i);
     let a = vertex_at(ordering, i);
     let b = vertex_at(ordering, j);
-    let c = candidate(ordering, k, e);
+    let front = front_of(rows, free, a, b);
+    let c = first_last(kind, ordering, k, labels, front, j, i, labels[b.0 as usize]);
     Violation { a, b, c }
 }

@@ -36,9 +36,6 @@ choose-requires c κs = c .before .before .loop .inv .1
 slice-write-tail : tie.Need-slice-write-tail Inv-loop μ-loop
 slice-write-tail c = omega (arith, c .before .before .before .loop .inv .0 .long)
 
-cast-row-of : tie.Need-cast-row-of Inv-loop μ-loop
-cast-row-of c = search needs
-
 row-of-requires : tie.Need-row-of-requires Inv-loop μ-loop
 row-of-requires c κs = tt
 
@@ -98,7 +95,6 @@ fill-spec =
     loop-holds
     choose-requires
     slice-write-tail
-    cast-row-of
     row-of-requires
     add-remove
     spread-requires

@@ -1,35 +1,76 @@
 -- `steps::violation::first_first` meets its contract: no position that was passed starts a violation.
 -- Assumes nothing.
-use Prim.Native.Nat.{_-_}
+use Prim.Native.Nat.{ℕ, _-_, _<_, _≤_}
+use mathlib.Core.Path.{ap}
 use native.Mathlib.Omega.{arith}
+use lib.Dec.{T}
+use lib.ListN.{getD}
 use borrow.Author.Needs.{needs}
 use Rattle.bitset.proofs.Tests.{is-true, is-false}
-use Rattle.bitset.proofs.Passed.{Passed, passed-start, passed-more, first-found, first-unfound, some-found, none-found}
+use Rattle.bitset.proofs.Passed.{Passed, passed-start, passed-more, first-found, first-unfound}
 use Rattle.searches.specs.Kind.{searchOf}
 use Rattle.steps.specs.Steps.{firstIn}
+use Rattle.steps.proofs.Completing.{front-at, first-there, first-nowhere}
 use Rattle.steps.proofs.violation.first_first.Statement.{statement}
 use Rattle.steps.proofs.violation.first_first.Tie as tie
 
 abbrev Inv-loop : tie.InvT-loop
-Inv-loop kind rows ordering k labels free j end middle i₀ i = Passed middle (firstIn (searchOf (kind .0)) rows ordering labels free (j .0) k) i
+Inv-loop kind rows ordering k labels free j b mine middle i₀ i =
+    Passed middle (firstIn (searchOf (kind .0)) rows ordering labels free (j .0) k) i
 
 abbrev μ-loop : tie.MeasureT-loop
-μ-loop kind rows ordering k labels free j end middle i₀ i = middle - i
+μ-loop kind rows ordering k labels free j b mine middle i₀ i = middle - i
 
-add-end : tie.Need-add-end Inv-loop μ-loop
-add-end c = let s = c .before .before in omega (arith, s .pre .fits, s .pre .small)
+vertex-at-requires : tie.Need-vertex-at-requires Inv-loop μ-loop
+vertex-at-requires c κs = let s = c .before .before in omega (arith, s .pre .inside, s .pre .long)
+
+cast-mine : tie.Need-cast-mine Inv-loop μ-loop
+cast-mine c = search needs
+
+mul-mine : tie.Need-mul-mine Inv-loop μ-loop
+mul-mine c = search needs
+
+element-copy-out-mine : tie.Need-element-copy-out-mine Inv-loop μ-loop
+element-copy-out-mine c =
+    let s = c .before .before .before .before in
+    omega (arith, c .before .vertex-at .ensures, s .pre .small, s .pre .vertices (s .args .j .0) (s .pre .inside))
 
 loop-holds : tie.Need-loop-holds Inv-loop μ-loop
 loop-holds c = passed-start _ _
 
-first-last-requires : tie.Need-first-last-requires Inv-loop μ-loop
-first-last-requires c κs = (c .before .before .before .before .pre, omega arith)
+vertex-at-requires-2 : tie.Need-vertex-at-requires-2 Inv-loop μ-loop
+vertex-at-requires-2 c κs = let s = c .before .before .before .before .before .before .before in omega (arith, s .pre .inside, s .pre .long)
+
+front-of-requires : tie.Need-front-of-requires Inv-loop μ-loop
+front-of-requires c κs = tt
+
+first-by-number-requires : tie.Need-first-by-number-requires Inv-loop μ-loop
+first-by-number-requires c κs =
+    let s = c .before .before .before .before .before .before .before .before .before in
+    omega (arith, s .pre .inside, s .pre .fits, s .pre .small)
+
+-- what the search by number says of position i
+starts : (c : tie.After-first-by-number Inv-loop μ-loop)
+    → let s = c .before .before .before .before .before .before .before .before .before .before in
+    let a = s .args in
+    let test = firstIn (searchOf (a .kind .0)) (a .rows .now) (a .ordering .now) (a .labels .now) (a .free) (a .j .0) (a .k) (c .before .before .before .before .loop .i) in
+    (c .first-by-number .result .0 < 64 → T test) × (64 ≤ c .first-by-number .result .0 → T test → ⊥)
+starts c =
+    let l = c .before .before .before .before in
+    let b = l .before .before .before in
+    let s = b .before .before .before in
+    let a = s .args in
+    let k = searchOf (a .kind .0) in
+    let front = front-at (a .rows .now) (a .ordering .now) (a .free) (l .loop .i) (a .j .0) (c .before .before .vertex-at2 .ensures) (b .vertex-at .ensures) (c .before .front-of .ensures) in
+    let mine = ap (λ (v : ℕ). getD (a .labels .now) v 0) (b .vertex-at .ensures) in (
+      first-there k (a .rows .now) (a .ordering .now) (a .labels .now) (a .free) (a .k) (a .j .0) (l .loop .i) front mine (s .pre) (c .first-by-number .ensures),
+      first-nowhere k (a .rows .now) (a .ordering .now) (a .labels .now) (a .free) (a .k) (a .j .0) (l .loop .i) front mine (s .pre) (c .first-by-number .ensures),
+    )
 
 returns : tie.Need-returns Inv-loop μ-loop
-unfolding firstIn
 returns c =
-    let looked = c .before in
-    first-found (looked .before .before .loop .inv) (is-true _ (some-found _ _ _ (looked .first-last .ensures) (c .if1 .taken)))
+    let n = c .before .before in
+    first-found (n .before .before .before .before .loop .inv) (is-true _ (starts n .0 (c .if1 .taken)))
 
 add-i : tie.Need-add-i Inv-loop μ-loop
 add-i c = search needs
@@ -38,11 +79,10 @@ loop-less : tie.Need-loop-less Inv-loop μ-loop
 loop-less c = search needs
 
 loop-again : tie.Need-loop-again Inv-loop μ-loop
-unfolding firstIn
 loop-again c =
-    let looked = c .before in
-    let turn = looked .before in
-    passed-more (turn .before .loop .inv) (turn .loop-test .taken) (is-false _ (none-found _ _ _ (looked .first-last .ensures) (c .if1 .left)))
+    let n = c .before .before in
+    let turn = n .before .before .before in
+    passed-more (turn .before .loop .inv) (turn .loop-test .taken) (is-false _ (starts n .1 (c .if1 .left)))
 
 returns-2 : tie.Need-returns-2 Inv-loop μ-loop
 returns-2 c = first-unfound (c .before .loop .inv) (c .loop-test .left)
@@ -53,9 +93,14 @@ first-first-spec =
     (tie.spec
     Inv-loop
     μ-loop
-    add-end
+    vertex-at-requires
+    cast-mine
+    mul-mine
+    element-copy-out-mine
     loop-holds
-    first-last-requires
+    vertex-at-requires-2
+    front-of-requires
+    first-by-number-requires
     returns
     add-i
     loop-less

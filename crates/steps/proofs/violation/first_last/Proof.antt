@@ -1,79 +1,40 @@
--- `steps::violation::first_last` meets its contract: no candidate that was passed makes a violation.
+-- `steps::violation::first_last` meets its contract: what the position has, or where there is none the number.
 -- Assumes nothing.
-use Prim.Native.Nat.{ℕ, _-_}
-use mathlib.Core.Path.{_≡_, sym, ap, _∙_}
-use lib.ListN.{length}
-use Rattle.bitset.proofs.Passed.{Passed, passed-start, passed-more, first-found, first-unfound}
-use native.Mathlib.Omega.{arith}
 use borrow.Author.Needs.{needs}
 use Rattle.searches.specs.Kind.{searchOf}
-use Rattle.searches.proofs.Judge.{third-vertex}
-use Rattle.steps.specs.Steps.{violatesIn, lastIn}
+use Rattle.steps.proofs.Searching.{last-by-place, last-by-number}
 use Rattle.steps.proofs.violation.first_last.Statement.{statement}
 use Rattle.steps.proofs.violation.first_last.Tie as tie
 
-abbrev Inv-loop : tie.InvT-loop
-Inv-loop kind rows ordering k labels free j i end e₀ e = Passed end (lastIn (searchOf (kind .0)) rows ordering labels free (j .0) k (i .0)) e
+first-by-place-requires : tie.Need-first-by-place-requires
+first-by-place-requires c κs = search needs
 
-abbrev μ-loop : tie.MeasureT-loop
-μ-loop kind rows ordering k labels free j i end e₀ e = end - e
+vertex-at-requires : tie.Need-vertex-at-requires
+vertex-at-requires c κs = search needs
 
-add-end : tie.Need-add-end Inv-loop μ-loop
-add-end c = let s = c .before .before in omega (arith, s .pre .0 .fits, s .pre .0 .small)
+returns : tie.Need-returns
+returns c =
+    let f = c .before .before .before in
+    let a = f .before .before .args in
+    last-by-place (searchOf (a .kind .0)) (a .labels .now) (a .front) (a .i .0) (a .mine) (a .ordering .now) (a .j .0) (a .k) (f .first-by-place .ensures)
+    (c .before .if1 .taken) (c .vertex-at .ensures)
 
-loop-holds : tie.Need-loop-holds Inv-loop μ-loop
-loop-holds c = passed-start _ _
+first-by-number-requires : tie.Need-first-by-number-requires
+first-by-number-requires c κs = search needs
 
-candidate-requires : tie.Need-candidate-requires Inv-loop μ-loop
-candidate-requires c κs = let s = c .before .before .before .before in (s .pre .0 .long, omega (arith, s .pre .0 .small))
-
-is-violation-requires : tie.Need-is-violation-requires Inv-loop μ-loop
-is-violation-requires c κs =
-    let s = c .before .before .before .before .before in
-    let a = s .args in
-    let l = third-vertex (a .ordering .now) (a .k) (length (a .rows .now)) (s .pre .0 .vertices) (c .before .before .loop .e) (omega arith) in
-    (s .pre .0, (s .pre .1, omega (arith, l, c .candidate .ensures, s .pre .0 .small)))
-
--- what was answered of a candidate is the test
-answered : (c : tie.After-is-violation Inv-loop μ-loop)
-    → let a = c .before .before .before .before .before .before .args in
-    c .is-violation .result
-    ≡ lastIn (searchOf (a .kind .0)) (a .rows .now) (a .ordering .now) (a .labels .now) (a .free) (a .j .0) (a .k) (a .i .0) (c .before .before .before .loop .e)
-unfolding lastIn
-answered c =
-    let a = c .before .before .before .before .before .before .args in
-    c .is-violation .ensures
-    ∙ ap (λ (v : ℕ). violatesIn (searchOf (a .kind .0)) (a .rows .now) (a .ordering .now) (a .labels .now) (a .free) (a .j .0) (a .i .0) v) (c .before .candidate .ensures)
-
-returns : tie.Need-returns Inv-loop μ-loop
-returns c = first-found (c .before .before .before .before .loop .inv) (sym (answered (c .before)) ∙ c .if1 .taken)
-
-add-e : tie.Need-add-e Inv-loop μ-loop
-add-e c = search needs
-
-loop-less : tie.Need-loop-less Inv-loop μ-loop
-loop-less c = search needs
-
-loop-again : tie.Need-loop-again Inv-loop μ-loop
-loop-again c =
-    let turn = c .before .before .before in
-    passed-more (turn .before .loop .inv) (turn .loop-test .taken) (sym (answered (c .before)) ∙ c .if1 .left)
-
-returns-2 : tie.Need-returns-2 Inv-loop μ-loop
-returns-2 c = first-unfound (c .before .loop .inv) (c .loop-test .left)
+returns-2 : tie.Need-returns-2
+returns-2 c =
+    let f = c .before .before .before in
+    let a = f .before .before .args in
+    last-by-number (searchOf (a .kind .0)) (a .labels .now) (a .front) (a .i .0) (a .mine) (a .ordering .now) (a .j .0) (a .k) (f .first-by-place .ensures)
+    (c .before .if1 .left) (c .first-by-number .ensures)
 
 pub first-last-spec : {M : Type 1} → statement M
 first-last-spec =
     tie.close
     (tie.spec
-    Inv-loop
-    μ-loop
-    add-end
-    loop-holds
-    candidate-requires
-    is-violation-requires
+    first-by-place-requires
+    vertex-at-requires
     returns
-    add-e
-    loop-less
-    loop-again
+    first-by-number-requires
     returns-2)

@@ -1,67 +1,83 @@
 -- `steps::violation::first_violation` meets its contract: the two searches found what is shown.
 -- Assumes nothing.
-use Prim.Native.Nat.{_<_}
+use Prim.Native.Nat.{ℕ, _<_}
+use mathlib.Core.Path.{ap}
 use native.Mathlib.Omega.{arith}
-use Rattle.bitset.proofs.Below.{any-out, first-found}
+use lib.Dec.{T}
+use lib.ListN.{getD}
+use borrow.Author.Needs.{needs}
 use Rattle.searches.specs.Kind.{searchOf}
 use Rattle.searches.specs.Answer.{verdictOf}
 use Rattle.steps.specs.Steps.{firstIn}
-use Rattle.steps.proofs.Searching.{shown, found-there}
-use borrow.Author.Needs.{needs}
+use Rattle.steps.proofs.Completing.{front-at, last-third}
+use Rattle.steps.proofs.Searching.{first-starts, shown}
 use Rattle.steps.proofs.violation.first_violation.Statement.{statement}
 use Rattle.steps.proofs.violation.first_violation.Tie as tie
 
 -- the position that the first search found
-inside : (c : tie.After-first-first) → c .first-first .result .0 < c .before .before .before .args .j .0
-inside c =
+starts : (c : tie.After-first-first)
+    → let a = c .before .before .before .args in
+    let i = c .first-first .result .0 in
+    (i < a .j .0) × T (firstIn (searchOf (a .kind .0)) (a .rows .now) (a .ordering .now) (a .labels .now) (a .free) (a .j .0) (a .k) i)
+starts c =
     let s = c .before .before .before in
     let a = s .args in
-    let test = firstIn (searchOf (a .kind .0)) (a .rows .now) (a .ordering .now) (a .labels .now) (a .free) (a .j .0) (a .k) in
-    omega (arith, c .first-first .ensures, first-found (any-out (a .j .0) test (s .pre .1)))
+    first-starts (searchOf (a .kind .0)) (a .rows .now) (a .ordering .now) (a .labels .now) (a .free) (a .j .0) (a .k) (c .first-first .result .0) (s .pre .1) (c .first-first .ensures)
 
 first-first-requires : tie.Need-first-first-requires
 first-first-requires c κs = search needs
 
-first-last-requires : tie.Need-first-last-requires
-first-last-requires c κs = (c .before .before .before .pre .0, inside c)
-
 vertex-at-requires : tie.Need-vertex-at-requires
-vertex-at-requires c κs = let s = c .before .before .before .before in omega (arith, inside (c .before), s .pre .0 .inside, s .pre .0 .long)
+vertex-at-requires c κs = let s = c .before .before .before in omega (arith, starts c .0, s .pre .0 .inside, s .pre .0 .long)
 
 vertex-at-requires-2 : tie.Need-vertex-at-requires-2
-vertex-at-requires-2 c κs = let s = c .before .before .before .before .before in omega (arith, s .pre .0 .inside, s .pre .0 .long)
+vertex-at-requires-2 c κs = search needs
 
-candidate-requires : tie.Need-candidate-requires
-candidate-requires c κs =
-    let f = c .before .before .before in
+front-of-requires : tie.Need-front-of-requires
+front-of-requires c κs = search needs
+
+cast-first-last : tie.Need-cast-first-last
+cast-first-last c = search needs
+
+mul-first-last : tie.Need-mul-first-last
+mul-first-last c = search needs
+
+element-copy-out-first-last : tie.Need-element-copy-out-first-last
+element-copy-out-first-last c =
+    let b = c .before .before in
+    let s = b .before .before .before .before .before in
+    omega (arith, b .vertex-at2 .ensures, s .pre .0 .small, s .pre .0 .vertices (s .args .j .0) (s .pre .0 .inside))
+
+first-last-requires : tie.Need-first-last-requires
+first-last-requires c κs =
+    let f = c .before .before .before .before .before in
     let s = f .before .before .before in
-    let a = s .args in (
-      s .pre .0 .long,
-      omega (
-        arith,
-        s .pre .0 .small,
-        found-there (searchOf (a .kind .0)) (a .rows .now) (a .ordering .now) (a .labels .now) (a .free) (a .j .0) (a .k)
-            (f .first-first .result .0) (c .before .before .first-last .result) (s .pre .1) (f .first-first .ensures) (c .before .before .first-last .ensures),
-      ),
-    )
+    (s .pre .0 .inside, (s .pre .0 .long, omega (arith, starts f .0, s .pre .0 .inside, s .pre .0 .fits, s .pre .0 .small)))
 
 returns : tie.Need-returns
 unfolding verdictOf
 returns c =
-    let f = c .before .before .before .before in
-    let a = f .before .before .before .args in
-    shown (searchOf (a .kind .0)) (a .rows .now) (a .ordering .now) (a .labels .now) (a .free) (a .j .0) (a .k)
-    (f .first-first .result .0) (c .before .before .before .first-last .result)
-    (f .first-first .ensures) (c .before .before .before .first-last .ensures)
-    (c .before .before .vertex-at .ensures) (c .before .vertex-at2 .ensures) (c .candidate .ensures)
+    let b = c .before .before .before .before in
+    let f = b .before .before in
+    let s = f .before .before .before in
+    let a = s .args in
+    let k = searchOf (a .kind .0) in
+    let i = f .first-first .result .0 in
+    let front = front-at (a .rows .now) (a .ordering .now) (a .free) i (a .j .0) (b .before .vertex-at .ensures) (b .vertex-at2 .ensures) (c .before .before .before .front-of .ensures) in
+    let mine = ap (λ (v : ℕ). getD (a .labels .now) v 0) (b .vertex-at2 .ensures) in
+    shown k (a .rows .now) (a .ordering .now) (a .labels .now) (a .free) (a .j .0) (a .k) i (f .first-first .ensures) (b .before .vertex-at .ensures) (b .vertex-at2 .ensures)
+    (last-third k (a .rows .now) (a .ordering .now) (a .labels .now) (a .free) (a .k) (a .j .0) i front mine (s .pre .0) (c .first-last .ensures) (starts f .1))
 
 pub first-violation-spec : {M : Type 1} → statement M
 first-violation-spec =
     tie.close
     (tie.spec
     first-first-requires
-    first-last-requires
     vertex-at-requires
     vertex-at-requires-2
-    candidate-requires
+    front-of-requires
+    cast-first-last
+    mul-first-last
+    element-copy-out-first-last
+    first-last-requires
     returns)
