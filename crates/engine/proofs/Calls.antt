@@ -2,22 +2,19 @@
 --   replayable                        an ordering can be replayed on empty labels
 --   fault-there, fault-judged         where the replay stops there is a violation, and the first one is judge's verdict
 --   stopped-fails, ended-passes, whole-filled, filled-carried   what extend answers and leaves
---   passes-refused, passes-counted    whether an ordering that is placed again passes
+--   moment-refused, moment-stopped, moment-ended   what after hands back
 --   judge-asked-*, carryOn-asked-*    the answers of the calls, from the checks' answer
 -- Assumes nothing.
 use mathlib.Core.Path.{_≡_, refl, sym, ap, ap₂, _∙_, subst}
 use mathlib.Core.Bool.{Bool, true, false, cond, not}
-use mathlib.Core.Logic.{_⊎_, inl, inr}
 use mathlib.Core.List.{List, [], _∷_, _++_, append-nil, append-assoc}
 use mathlib.Core.Option.{Option, none, some}
 use Prim.Native.Nat.{ℕ, _+_, _-_, _≤_, _<_}
 use native.Mathlib.Omega.{arith}
-use borrow.Author.Tests.{eq-eqb, ne-eqb}
-use lib.Dec.{T, eqb}
+use lib.Dec.{T}
 use lib.ListN.{length, take, drop, replicate, length-drop, drop-of-length-le}
 use lib.Seq.{take-all, drop-drop}
 use Rattle.bitset.specs.Below.{anyBelow, firstBelow}
-use Rattle.bitset.proofs.Tests.{below-or}
 use Rattle.bitset.proofs.Below.{first}
 use Rattle.bitset.proofs.Passed.{some-found}
 use Rattle.searches.specs.Kind.{Search, searchOf}
@@ -31,7 +28,9 @@ use Rattle.searches.proofs.Refusals.{none-accepts, first-refuses}
 use Rattle.searches.proofs.Answers as answers
 use Rattle.checks.proofs.Tried.{tried-first, refused-before}
 use Rattle.steps.specs.Steps.{labelsAfter, freeAfter, stopsAt, lastIn, firstIn, firstFault, fillIn, Replayable, Searchable}
+use Rattle.engine.specs.declared.after.Moment.{Moment}
 use Rattle.engine.specs.Lists.{Judgeable, Extendable}
+use Rattle.engine.specs.Moments.{noMoment, momentOf, momentAfter}
 use Rattle.engine.proofs.Judging.{first-before, judge-fails-words, judge-passes-words}
 use Rattle.engine.proofs.Filling.{carry-fills}
 
@@ -131,26 +130,41 @@ module _ (kind : ℕ) (rows w : List ℕ) where
       let x = answers.accepted-ordering kind rows w a in
       (record { small = answers.valid-small kind rows (x .0); ordering = x .1 }, sym (answers.judge-accepted kind rows w a))
 
-  -- what `after` answers of an ordering that is refused, and of one that was placed again up to `count`
-  pub passes-refused : (q : ℕ) → some q ≡ firstRefusal (judgeTests kind rows w) → false ≡ isPass (judgeAnswer kind rows w)
-  unfolding isPass
-  passes-refused q e = ap isPass (judge-asked-refused q e)
+  -- ---- what `after` hands back
 
-  pub passes-counted : none ≡ firstRefusal (judgeTests kind rows w) → (count : ℕ) → count ≡ firstBelow (length w) (stopsAt (searchOf kind) rows w)
-      → eqb count (length w) ≡ isPass (judgeAnswer kind rows w)
-  unfolding isPass
-  passes-counted e count stops = go (below-or count (length w)) ∙ ap isPass (x .1)
-    where
-      x : Judgeable rows w (length w) × (judge (searchOf kind) (arcs rows) (length rows) w (length w) ≡ judgeAnswer kind rows w)
-      x = judge-asked-accepted e
+  pub moment-none : {r : Moment} → r ≡ noMoment → false ≡ isPass (judgeAnswer kind rows w) → r ≡ momentAfter kind rows w
+  unfolding momentAfter
+  moment-none is fails = is ∙ ap (λ (b : Bool). cond b (momentOf rows w) noMoment) fails
 
-      go : (count < length w) ⊎ (length w ≤ count) → eqb count (length w) ≡ isPass (judge (searchOf kind) (arcs rows) (length rows) w (length w))
-      go (inl l) =
-          ne-eqb count (length w) (λ same. omega arith)
-          ∙ sym (stopped-fails rows w (length w) (x .0) (searchOf kind) count stops (labelsAfter rows w count) (freeAfter (length rows) w count) l refl refl)
-      go (inr l) =
-          let same : count ≡ length w = omega (arith, stops, first (length w) (stopsAt (searchOf kind) rows w) .within) in
-          eq-eqb count (length w) same ∙ sym (ap isPass (ended-passes rows w (length w) (x .0) (searchOf kind) count stops l))
+  pub moment-refused : {r : Moment} → r ≡ noMoment → (q : ℕ) → some q ≡ firstRefusal (judgeTests kind rows w) → r ≡ momentAfter kind rows w
+  unfolding isPass
+  moment-refused is q e = moment-none is (ap isPass (judge-asked-refused q e))
+
+  -- an ordering that was placed again up to `count`
+  module _ (accepted : none ≡ firstRefusal (judgeTests kind rows w)) (count : ℕ) (stops : count ≡ firstBelow (length w) (stopsAt (searchOf kind) rows w)) where
+    asked : Judgeable rows w (length w) × (judge (searchOf kind) (arcs rows) (length rows) w (length w) ≡ judgeAnswer kind rows w)
+    asked = judge-asked-accepted accepted
+
+    pub moment-stopped : {r : Moment} → r ≡ noMoment → count < length w → r ≡ momentAfter kind rows w
+    moment-stopped is l =
+        moment-none is
+        (sym (stopped-fails rows w (length w) (asked .0) (searchOf kind) count stops (labelsAfter rows w count) (freeAfter (length rows) w count) l refl refl)
+        ∙ ap isPass (asked .1))
+
+    pub moment-ended : {free : ℕ} {labels : List ℕ} → length w ≤ count → free ≡ freeAfter (length rows) w count → labels ≡ labelsAfter rows w count
+        → record { passes = true; free = free; labels = labels } ≡ momentAfter kind rows w
+    unfolding momentAfter momentOf isPass
+    moment-ended l at-free at-labels =
+        let whole : count ≡ length w = omega (arith, stops, first (length w) (stopsAt (searchOf kind) rows w) .within) in
+        let passing : true ≡ isPass (judgeAnswer kind rows w) =
+        ap isPass (sym (ended-passes rows w (length w) (asked .0) (searchOf kind) count stops l) ∙ asked .1)
+        in
+        ap₂ (λ (f : ℕ) (ls : List ℕ). handed f ls) (at-free ∙ ap (λ (j : ℕ). freeAfter (length rows) w j) whole)
+        (at-labels ∙ ap (λ (j : ℕ). labelsAfter rows w j) whole)
+        ∙ ap (λ (b : Bool). cond b (momentOf rows w) noMoment) passing
+      where
+        handed : ℕ → List ℕ → Moment
+        handed f ls = record { passes = true; free = f; labels = ls }
 
 module _ (kind : ℕ) (rows t out : List ℕ) (k : ℕ) where
   abbrev verdict : Verdict

@@ -2,40 +2,43 @@
 use searches::Kind;
 use searches::Outcome;
 ghost use mathlib.Core.Path.{_≡_};
-ghost use lib.Dec.{T};
-ghost use lib.ListN.{length};
-ghost use Rattle.searches.specs.Answer.{isPass, judgeAnswer};
-ghost use Rattle.steps.specs.Steps.{labelsAfter, freeAfter};
+ghost use Rattle.engine.specs.Moments.{noMoment, momentAfter};
 
-// Whether judge passes an ordering; where it does, the labels and the unplaced vertices after it.
+// Whether judge passes an ordering, and the unplaced vertices and the labels after it; where it does not pass, no vertex and empty labels.
 pub struct Moment {
     pub passes: bool,
     pub free: u64,
     pub labels: [u64; 64],
 }
 
+// The moment of an ordering that does not pass.
+pub fn no_moment() -> Moment
+    ensures { λ r. ⌜ r ≡ noMoment ⌝ }
+{
+    let labels = [0u64; 64];
+    Moment {
+        passes: false,
+        free: 0,
+        labels,
+    }
+}
+
 // Judges an ordering for one that wants to go on with it: checked and placed again once. Alters nothing.
 pub fn after(kind: Kind, rows: &[u64], ordering: &[u8]) -> Moment
-    ensures passes { λ r. ⌜ r .passes ≡ isPass (judgeAnswer (kind .0) (now (rows .entry)) (now (ordering .entry))) ⌝ }
-    ensures words { λ r. ⌜
-        (T (r .passes) →
-        (r .labels ≡ labelsAfter (now (rows .entry)) (now (ordering .entry)) (length (now (ordering .entry))))
-        × (r .free ≡ freeAfter (length (now (rows .entry))) (now (ordering .entry)) (length (now (ordering .entry)))))
-        ⌝ }
+    ensures { λ r. ⌜ r ≡ momentAfter (kind .0) (now (rows .entry)) (now (ordering .entry)) ⌝ }
 {
     let mut labels = [0u64; 64];
     let checked = checks::judge_refusal(kind, rows, ordering);
     if let Outcome::Refused(_) = checked {
-        return Moment {
-            passes: false,
-            free: 0,
-            labels,
-        };
+        return no_moment();
     }
     let k = ordering.len();
     let placed = steps::replay::replay(kind, rows, ordering, k, &mut labels);
+    if placed.count < k {
+        return no_moment();
+    }
     Moment {
-        passes: placed.count == k,
+        passes: true,
         free: placed.free,
         labels,
     }

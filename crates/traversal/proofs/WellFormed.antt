@@ -2,18 +2,20 @@
 --   plan-length, walk-length         there are n rows and k places
 --   parts, of-parts                  the tests that well-formedness is made of
 --   well-formed-out, well-formed-in  wellFormed: condition by condition
+--   surveyed-broken, surveyed-judged what survey hands back where a test fails, and where judge decides
+--   surveyed-passes, surveyed-words  whether the open walk is well formed, and the words of the moment where it is
 --   open-offers, free-offers         the words of the moment decide who is offered and who is placed
 -- Assumes nothing.
 use Prim.Native.Nat.{ℕ, _≤_, _<_}
-use mathlib.Core.Path.{_≡_, sym, ap, ap₂, _∙_, subst}
-use mathlib.Core.Bool.{Bool, not, _&&_}
+use mathlib.Core.Path.{_≡_, refl, sym, ap, ap₂, _∙_, subst}
+use mathlib.Core.Bool.{Bool, true, false, cond, not, _&&_}
 use mathlib.Core.List.{List}
 use native.Mathlib.Omega.{arith}
 use lib.Dec.{T, leb, leb→le, le→leb, not-T, T-not}
 use lib.ListN.{length}
 use lib.Seq.{length-take-le}
 use Rattle.bitset.specs.Word.{member}
-use Rattle.bitset.proofs.Tests.{and-in, and-out, is-true}
+use Rattle.bitset.proofs.Tests.{and-in, and-out, is-true, cond-yes, cond-no}
 use Rattle.searches.specs.Kind.{searchOf}
 use Rattle.searches.specs.Ordering.{arcs, placed, IsOrdering}
 use Rattle.searches.specs.Run.{offered}
@@ -24,9 +26,11 @@ use Rattle.searches.proofs.Answers.{passes-accepts, accepted-ordering, ordering
 use Rattle.labels.specs.Words.{openIn}
 use Rattle.steps.specs.Steps.{labelsAfter, freeAfter}
 use Rattle.steps.proofs.Representation.{open-offered, free-unplaced}
+use Rattle.engine.specs.declared.after.Moment.{Moment}
+use Rattle.engine.specs.Moments.{noMoment, momentOf, momentAfter}
 use Rattle.traversal.specs.declared.Traversal.{Traversal}
 use Rattle.traversal.proofs.Unused.{unused-out, unused-in}
-use Rattle.traversal.specs.State.{plan, walk, usedFrom, wellFormed, WellFormed, offers}
+use Rattle.traversal.specs.State.{plan, walk, usedFrom, wellFormed, surveyed, WellFormed, offers}
 
 -- the tests one by one
 pub record Parts (t : Traversal) : Type 0 where
@@ -67,6 +71,25 @@ by-judge t points places rows-unused places-unused =
     (and-in (leb (t .n) 64 && leb (t .k) (t .n)) (not (usedFrom (t .n) (t .rows)))
     (and-in (leb (t .n) 64) (leb (t .k) (t .n)) (le→leb (t .n) 64 points) (le→leb (t .k) (t .n) places))
     (not-T (usedFrom (t .n) (t .rows)) rows-unused)) (not-T (usedFrom (t .k) (t .ordering)) places-unused))))
+
+-- ---- what survey hands back
+
+pub surveyed-broken : (t : Traversal) {r : Moment} → r ≡ noMoment → (T (wellFormed t) → ⊥) → r ≡ surveyed t
+unfolding surveyed
+surveyed-broken t is broken = is ∙ sym (cond-no (wellFormed t) (momentOf (plan t) (walk t)) noMoment broken)
+
+pub surveyed-judged : (t : Traversal) {r : Moment} → r ≡ momentAfter (t .kind .0) (plan t) (walk t) → isPass (judgeAnswer (t .kind .0) (plan t) (walk t)) ≡ wellFormed t
+    → r ≡ surveyed t
+unfolding surveyed momentAfter
+surveyed-judged t is decides = is ∙ ap (λ (b : Bool). cond b (momentOf (plan t) (walk t)) noMoment) decides
+
+pub surveyed-passes : (t : Traversal) {r : Moment} → r ≡ surveyed t → r .passes ≡ wellFormed t
+unfolding surveyed momentOf noMoment
+surveyed-passes t is = ap (λ (m : Moment). m .passes) is ∙ go (wellFormed t)
+  where
+    go : (b : Bool) → cond b (momentOf (plan t) (walk t)) noMoment .passes ≡ b
+    go true = refl
+    go false = refl
 
 -- an open walk as it can arrive: its arrays have 64 entries
 module _ (t : Traversal) (rows-full : length (t .rows) ≡ 64) (ordering-full : length (t .ordering) ≡ 64) where
@@ -112,6 +135,18 @@ module _ (t : Traversal) (rows-full : length (t .rows) ≡ 64) (ordering-full : 
       ∙ ap₂ (λ (a b : ℕ). judge (searchOf (t .kind .0)) (arcs (plan t)) a (walk t) b) n k ∙ x .passing))
 
   -- ---- the words of the moment
+
+  pub surveyed-words : {r : Moment} → r ≡ surveyed t → T (wellFormed t)
+      → (r .labels ≡ labelsAfter (plan t) (walk t) (t .k)) × (r .free ≡ freeAfter (t .n) (walk t) (t .k))
+  unfolding surveyed momentOf
+  surveyed-words is x =
+      let p = parts t x in
+      let n = plan-length (p .points) in
+      let k = walk-length (omega (arith, p .points, p .places)) in
+      let there = is ∙ cond-yes (wellFormed t) (momentOf (plan t) (walk t)) noMoment x in (
+        ap (λ (m : Moment). m .labels) there ∙ ap (λ (j : ℕ). labelsAfter (plan t) (walk t) j) k,
+        ap (λ (m : Moment). m .free) there ∙ ap₂ (λ (m j : ℕ). freeAfter m (walk t) j) n k,
+      )
 
   module _ (x : WellFormed t) {labels : List ℕ} {free : ℕ} (labelled : labels ≡ labelsAfter (plan t) (walk t) (t .k))
       (unplaced : free ≡ freeAfter (t .n) (walk t) (t .k)) where

@@ -3,6 +3,7 @@
 --   plan t, walk t                   its graph's rows, and its ordering                                            [01: plan, walk]
 --   usedAt m l i, usedFrom m l       entry i of l is behind the first m and not 0; some of the 64 is
 --   wellFormed t                     the test;   WellFormed t   the same condition by condition                    [01: well formed]
+--   surveyed t                       the unplaced vertices and the labels after the walk; none and empty where t is not well formed
 --   offers t v                       v is offered after the walk                                                   [01: offered]
 --   setBelow n f                     the numbers below n at which f holds, as a word
 --   placeTests, takeBackTests        what is refused: numbers and tests in 01's order                              [01: from the state]
@@ -27,6 +28,8 @@ use Rattle.searches.specs.Run.{offered}
 use Rattle.searches.specs.Violation.{passes, judge}
 use Rattle.searches.specs.Answer.{isPass, openTests, Accepts, firstRefusal, judgeAnswer, openAnswer}
 use Rattle.searches.specs.declared.Kind.{Kind}
+use Rattle.engine.specs.declared.after.Moment.{Moment}
+use Rattle.engine.specs.Moments.{noMoment, momentOf}
 use Rattle.traversal.specs.declared.Traversal.{Traversal}
 
 abbrev pub state : Kind → ℕ → List ℕ → ℕ → List ℕ → Traversal
@@ -61,6 +64,9 @@ pub record WellFormed (t : Traversal) : Type 0 where
   -- unused rows and places are 0
   pub rows-unused : (u : ℕ) → t .n ≤ u → u < 64 → at (t .rows) u ≡ 0
   pub places-unused : (p : ℕ) → t .k ≤ p → p < 64 → at (t .ordering) p ≡ 0
+
+unfoldable pub surveyed : Traversal → Moment
+surveyed t = cond (wellFormed t) (momentOf (plan t) (walk t)) noMoment
 
 -- ---- who is offered
 

@@ -3,10 +3,8 @@ use engine::after::Moment;
 use searches::Kind;
 ghost use mathlib.Core.Path.{_≡_};
 ghost use Prim.Native.Nat.{_≤_};
-ghost use lib.Dec.{T};
-ghost use lib.ListN.{length, take};
-ghost use Rattle.steps.specs.Steps.{labelsAfter, freeAfter};
-ghost use Rattle.traversal.specs.State.{state, usedFrom, wellFormed};
+ghost use lib.ListN.{length};
+ghost use Rattle.traversal.specs.State.{state, usedFrom, surveyed};
 
 // Whether a row from `n` on is not 0.
 fn row_used_from(rows: &[u64], n: usize) -> bool
@@ -34,45 +32,23 @@ fn entry_used_from(ordering: &[u8], k: usize) -> bool
     false
 }
 
-// Whether the open walk of these parts is well formed; where it is, the labels and the unplaced vertices of the moment. Its walk is judged
-// once.
+// Whether the open walk of these parts is well formed; where it is, the labels and the unplaced vertices of the moment, else empty labels and
+// no vertex. Its walk is judged once.
 pub fn survey(kind: Kind, n: usize, rows: &[u64], k: usize, ordering: &[u8]) -> Moment
     requires { ⌜ (length (now rows) ≡ 64) × (length (now ordering) ≡ 64) ⌝ }
-    ensures sound { λ r. ⌜ r .passes ≡ wellFormed (state kind n (now (rows .entry)) k (now (ordering .entry))) ⌝ }
-    ensures words { λ r. ⌜
-        (T (r .passes) →
-        (r .labels ≡ labelsAfter (take n (now (rows .entry))) (take k (now (ordering .entry))) k)
-        × (r .free ≡ freeAfter n (take k (now (ordering .entry))) k))
-        ⌝ }
+    ensures { λ r. ⌜ r ≡ surveyed (state kind n (now (rows .entry)) k (now (ordering .entry))) ⌝ }
 {
-    let labels = [0u64; 64];
     if 64 < n {
-        return Moment {
-            passes: false,
-            free: 0,
-            labels,
-        };
+        return engine::after::no_moment();
     }
     if n < k {
-        return Moment {
-            passes: false,
-            free: 0,
-            labels,
-        };
+        return engine::after::no_moment();
     }
     if row_used_from(rows, n) {
-        return Moment {
-            passes: false,
-            free: 0,
-            labels,
-        };
+        return engine::after::no_moment();
     }
     if entry_used_from(ordering, k) {
-        return Moment {
-            passes: false,
-            free: 0,
-            labels,
-        };
+        return engine::after::no_moment();
     }
     engine::after::after(kind, &rows[..n], &ordering[..k])
 }

@@ -2,32 +2,33 @@
 -- Assumes nothing.
 use mathlib.Core.Path.{_≡_, sym, ap, _∙_}
 use mathlib.Core.Option.{none}
-use Prim.Native.Nat.{ℕ}
 use denote.Ref.{now}
-use lib.Dec.{eqb→eq}
 use lib.ListN.{length}
+use borrow.Author.Needs.{needs}
 use Rattle.searches.specs.Answer.{judgeTests, firstRefusal, refusalOf}
-use Rattle.steps.specs.Steps.{labelsAfter, freeAfter}
-use Rattle.engine.proofs.Calls.{replayable, judge-asked-accepted, passes-refused, passes-counted}
+use Rattle.engine.proofs.Calls.{replayable, judge-asked-accepted, moment-refused, moment-stopped, moment-ended}
 use Rattle.engine.proofs.after.after.Statement.{statement}
 use Rattle.engine.proofs.after.after.Tie as tie
 
 judge-refusal-requires : tie.Need-judge-refusal-requires
-judge-refusal-requires c κs = tt
+judge-refusal-requires c κs = search needs
 
 enum-told : tie.Need-enum-told
-enum-told c = c .match .keys1
+enum-told c = search needs
+
+no-moment-requires : tie.Need-no-moment-requires
+no-moment-requires c κs = search needs
 
 returns : tie.Need-returns
 unfolding refusalOf
 returns c =
-    let a = c .before .before .before .before .before .args in (
-      passes-refused (a .kind .0) (now (a .rows)) (now (a .ordering)) _ (sym (ap refusalOf (c .enum-told .given .1)) ∙ c .before .before .judge-refusal .ensures),
-      λ t. absurd t,
-    )
+    let told = c .before in
+    let a = told .before .before .before .before .before .args in
+    moment-refused (a .kind .0) (now (a .rows)) (now (a .ordering)) (c .no-moment .ensures) _
+    (sym (ap refusalOf (told .enum-told .given .1)) ∙ told .before .before .judge-refusal .ensures)
 
 enum-told-2 : tie.Need-enum-told-2
-enum-told-2 c = c .match .keys2
+enum-told-2 c = search needs
 
 accepted : (c : tie.After-enum-told2)
     → let a = c .before .before .before .before .before .args in
@@ -41,20 +42,23 @@ replay-requires c κs =
     replayable (now (a .rows)) (now (a .ordering)) (length (now (a .ordering)))
     (judge-asked-accepted (a .kind .0) (now (a .rows)) (now (a .ordering)) (accepted (c .before)) .0)
 
+no-moment-requires-2 : tie.Need-no-moment-requires-2
+no-moment-requires-2 c κs = search needs
+
 returns-2 : tie.Need-returns-2
 returns-2 c =
-    let r = c .before .replay in
-    let told = c .before .before .before in
+    let r = c .before .before .before in
+    let told = r .before .before in
     let a = told .before .before .before .before .before .args in
-    let rows = now (a .rows) in
-    let w = now (a .ordering) in (
-      passes-counted (a .kind .0) rows w (accepted told) (r .result .count) (r .ensures .0),
-      λ t.
-          let whole = eqb→eq (r .result .count) (length w) t in (
-            r .ensures .1 .1 .1 ∙ ap (λ (j : ℕ). labelsAfter rows w j) whole,
-            r .ensures .1 .0 ∙ ap (λ (j : ℕ). freeAfter (length rows) w j) whole,
-          ),
-    )
+    moment-stopped (a .kind .0) (now (a .rows)) (now (a .ordering)) (accepted told) (r .replay .result .count) (r .replay .ensures .0) (c .no-moment2 .ensures) (c .before .if1 .taken)
+
+returns-3 : tie.Need-returns-3
+returns-3 c =
+    let r = c .before .before in
+    let told = r .before .before in
+    let a = told .before .before .before .before .before .args in
+    moment-ended (a .kind .0) (now (a .rows)) (now (a .ordering)) (accepted told) (r .replay .result .count) (r .replay .ensures .0) (c .if1 .left)
+    (r .replay .ensures .1 .0) (r .replay .ensures .1 .1 .1)
 
 pub after-spec : {M : Type 1} → statement M
 after-spec =
@@ -62,7 +66,10 @@ after-spec =
     (tie.spec
     judge-refusal-requires
     enum-told
+    no-moment-requires
     returns
     enum-told-2
     replay-requires
-    returns-2)
+    no-moment-requires-2
+    returns-2
+    returns-3)

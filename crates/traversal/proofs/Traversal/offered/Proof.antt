@@ -7,8 +7,8 @@ use lib.ListN.{length}
 use borrow.Author.Needs.{needs}
 use Rattle.bitset.proofs.Tests.{not-true, not-false}
 use Rattle.searches.specs.Answer.{refusalOf, number}
-use Rattle.traversal.specs.State.{plan, walk}
-use Rattle.traversal.proofs.WellFormed.{well-formed-out, open-offers}
+use Rattle.traversal.specs.State.{plan, walk, wellFormed}
+use Rattle.traversal.proofs.WellFormed.{surveyed-passes, surveyed-words, well-formed-out, open-offers}
 use Rattle.traversal.proofs.Answered.{offered-whole, offered-refused}
 use Rattle.traversal.proofs.Traversal.offered.Statement.{statement}
 use Rattle.traversal.proofs.Traversal.offered.Tie as tie
@@ -31,7 +31,7 @@ unfolding refusalOf number
 returns c =
     let t = c .before .before .before .before .before .before .before .args .self in
     let asked = c .before .survey in
-    let refused = offered-refused t (sym (asked .ensures .0) ∙ not-true (asked .result .passes) (c .if1 .taken)) in
+    let refused = offered-refused t (sym (surveyed-passes t (asked .ensures)) ∙ not-true (asked .result .passes) (c .if1 .taken)) in
     (refl, (refused .0, refused .1))
 
 open-below-requires : tie.Need-open-below-requires
@@ -40,16 +40,17 @@ open-below-requires c κs = search needs
 returns-2 : tie.Need-returns-2
 unfolding refusalOf plan walk
 returns-2 c =
-    let sound = c .before .before .before in
-    let asked = sound .before .survey in
-    let s = sound .before .before .before .before .before .before .before in
+    let past = c .before .before .before in
+    let asked = past .before .survey in
+    let s = past .before .before .before .before .before .before .before in
     let t = s .args .self in
-    let yes = not-false (asked .result .passes) (sound .if1 .left) in
-    let passed : T (asked .result .passes) = subst (λ (b : Bool). T b) (sym yes) tt in
-    let words = asked .ensures .1 passed in
+    let yes = not-false (asked .result .passes) (past .if1 .left) in
+    let told = surveyed-passes t (asked .ensures) in
+    let sound : T (wellFormed t) = subst (λ (b : Bool). T b) (sym yes ∙ told) tt in
     let full = arrays s in
-    let formed = well-formed-out t (full .0) (full .1) (subst (λ (b : Bool). T b) (asked .ensures .0) passed) in
-    let whole = offered-whole t (sym (asked .ensures .0) ∙ yes) (open-offers t (full .0) (full .1) formed (words .0) (words .1)) in
+    let words = surveyed-words t (full .0) (full .1) (asked .ensures) sound in
+    let formed = well-formed-out t (full .0) (full .1) sound in
+    let whole = offered-whole t (sym told ∙ yes) (open-offers t (full .0) (full .1) formed (words .0) (words .1)) in
     (refl, (c .open-below .ensures ∙ whole .0, whole .1))
 
 pub offered-spec : {M : Type 1} → statement M

@@ -15,8 +15,8 @@ use Rattle.searches.specs.Ordering.{placed}
 use Rattle.searches.specs.Answer.{number, refusalOf}
 use Rattle.checks.proofs.Tried.{Tried, tried-none, tried-one, refused-here, accepted-here}
 use Rattle.traversal.specs.declared.Traversal.{Traversal}
-use Rattle.traversal.specs.State.{state, plan, walk, WellFormed, offers, placeTests, placeAnswer}
-use Rattle.traversal.proofs.WellFormed.{well-formed-out, open-offers, free-offers}
+use Rattle.traversal.specs.State.{state, plan, walk, wellFormed, WellFormed, offers, placeTests, placeAnswer}
+use Rattle.traversal.proofs.WellFormed.{surveyed-passes, surveyed-words, well-formed-out, open-offers, free-offers}
 use Rattle.traversal.proofs.refusals.place_refusal.Statement.{statement}
 use Rattle.traversal.proofs.refusals.place_refusal.Tie as tie
 
@@ -32,13 +32,17 @@ Past i s = Tried (tests s) (drop i (tests s))
 
 -- ---- what is known once 13 does not apply
 
-sound : (c : tie.Else1) → T (c .before .before .survey .result .passes)
-sound c = subst (λ (b : Bool). T b) (sym (not-false (c .before .before .survey .result .passes) (c .if1 .left))) tt
+-- what survey says of the state
+told : (c : tie.After-survey) → c .survey .result .passes ≡ wellFormed (asked (c .before .before .before))
+told c = surveyed-passes (asked (c .before .before .before)) (c .survey .ensures)
+
+sound : (c : tie.Else1) → T (wellFormed (asked (c .before .before .before .before .before)))
+sound c = subst (λ (b : Bool). T b) (sym (not-false (c .before .before .survey .result .passes) (c .if1 .left)) ∙ told (c .before .before)) tt
 
 formed : (c : tie.Else1) → WellFormed (asked (c .before .before .before .before .before))
 formed c =
     let s = c .before .before .before .before .before in
-    well-formed-out (asked s) (s .pre .0) (s .pre .1) (subst (λ (b : Bool). T b) (c .before .before .survey .ensures .0) (sound c))
+    well-formed-out (asked s) (s .pre .0) (s .pre .1) (sound c)
 
 unplaced : (c : tie.After-contains)
     → let s = c .before .before .before .before .before .before .before .before in
@@ -47,7 +51,7 @@ unfolding plan walk
 unplaced c =
     let first = c .before .before .before in
     let s = first .before .before .before .before .before in
-    let words = first .before .before .survey .ensures .1 (sound first) in
+    let words = surveyed-words (asked s) (s .pre .0) (s .pre .1) (first .before .before .survey .ensures) (sound first) in
     sym (c .contains .ensures ∙ free-offers (asked s) (s .pre .0) (s .pre .1) (formed first) (words .0) (words .1) (s .args .vertex .0) (omega arith))
 
 may-be-next : (c : tie.After-is-open)
@@ -57,14 +61,14 @@ unfolding plan walk
 may-be-next c =
     let first = c .before .before .before .before .before .before .before in
     let s = first .before .before .before .before .before in
-    let words = first .before .before .survey .ensures .1 (sound first) in
+    let words = surveyed-words (asked s) (s .pre .0) (s .pre .1) (first .before .before .survey .ensures) (sound first) in
     sym (c .is-open .ensures ∙ open-offers (asked s) (s .pre .0) (s .pre .1) (formed first) (words .0) (words .1) (s .args .vertex .0))
 
 -- ---- the tests in their order
 
 past-1 : (c : tie.Else1) → Past 1 (c .before .before .before .before .before)
 unfolding placeTests
-past-1 c = tried-one (tried-none _) (ap not (sym (c .before .before .survey .ensures .0)) ∙ c .if1 .left)
+past-1 c = tried-one (tried-none _) (ap not (sym (told (c .before .before))) ∙ c .if1 .left)
 
 past-2 : (c : tie.Else2) → Past 2 (c .before .before .before .before .before .before)
 unfolding placeTests
@@ -90,7 +94,7 @@ cast-v c = search needs
 
 returns : tie.Need-returns
 unfolding placeAnswer placeTests number refusalOf
-returns c = refused-here (tried-none _) (ap not (sym (c .before .before .survey .ensures .0)) ∙ c .if1 .taken)
+returns c = refused-here (tried-none _) (ap not (sym (told (c .before .before))) ∙ c .if1 .taken)
 
 returns-2 : tie.Need-returns-2
 unfolding placeAnswer placeTests number refusalOf

@@ -1,0 +1,20 @@
+-- What is unplaced after an ordering, and its labels, for one that is to be grown.
+--   noMoment                      the one of an ordering that does not pass: no vertex, empty labels
+--   momentOf rows w               the unplaced vertices and the labels after all of w
+--   momentAfter kind rows w       the latter where judge passes w, else the former
+use Prim.Native.Nat.{ℕ}
+use mathlib.Core.Bool.{true, false, cond}
+use mathlib.Core.List.{List}
+use lib.ListN.{length, replicate}
+use Rattle.searches.specs.Answer.{isPass, judgeAnswer}
+use Rattle.steps.specs.Steps.{labelsAfter, freeAfter}
+use Rattle.engine.specs.declared.after.Moment.{Moment}
+
+unfoldable pub noMoment : Moment
+noMoment = record { passes = false; free = 0; labels = replicate 64 0 }
+
+unfoldable pub momentOf : List ℕ → List ℕ → Moment
+momentOf rows w = record { passes = true; free = freeAfter (length rows) w (length w); labels = labelsAfter rows w (length w) }
+
+unfoldable pub momentAfter : ℕ → List ℕ → List ℕ → Moment
+momentAfter kind rows w = cond (isPass (judgeAnswer kind rows w)) (momentOf rows w) noMoment
