@@ -1,5 +1,6 @@
 // The choice by a tie-break: of the offered vertices, the one that stands last in it.
 use searches::Kind;
+use searches::Vertex;
 ghost use mathlib.Core.Path.{_≡_};
 ghost use Prim.Native.Nat.{_<_};
 ghost use Rattle.searches.specs.Kind.{searchOf};
@@ -7,13 +8,13 @@ ghost use Rattle.searches.specs.Ordering.{at};
 ghost use Rattle.labels.specs.Words.{Champion, Covers, openIn, chosenIn};
 
 // A vertex of `free`, which is not empty, that no other vertex of it is ahead of. Only one that is reached is ahead of another.
-fn champion(kind: Kind, labels: &[u64; 64], free: u64, reached: u64) -> usize
+fn champion(kind: Kind, labels: &[u64; 64], free: u64, reached: u64) -> Vertex
     requires { ⌜ (0 < free) × Covers reached (now labels) ⌝ }
-    ensures { λ r. ⌜ Champion (searchOf (kind .0)) (now (labels .entry)) free r ⌝ }
+    ensures { λ r. ⌜ Champion (searchOf (kind .0)) (now (labels .entry)) free (r .0) ⌝ }
 {
     let front = bitset::common(free, reached);
     if front == 0 {
-        return bitset::smallest(free);
+        return Vertex(bitset::smallest(free) as u8);
     }
     let mut best = bitset::smallest(front);
     let mut rest = bitset::without_smallest(front);
@@ -24,22 +25,24 @@ fn champion(kind: Kind, labels: &[u64; 64], free: u64, reached: u64) -> usize
         }
         rest = bitset::without_smallest(rest);
     }
-    best
+    Vertex(best as u8)
 }
 
 // Whether `v` is offered. `best` is a champion: it is offered itself, and except in MNS so is whoever it is not ahead of.
-fn is_open(kind: Kind, labels: &[u64; 64], free: u64, reached: u64, best: usize, v: usize) -> bool
-    requires { ⌜ Champion (searchOf (kind .0)) (now labels) free best × Covers reached (now labels) ⌝ }
-    ensures { λ r. ⌜ r ≡ openIn (searchOf (kind .0)) (now (labels .entry)) free v ⌝ }
+fn is_open(kind: Kind, labels: &[u64; 64], free: u64, reached: u64, best: Vertex, v: Vertex) -> bool
+    requires { ⌜ Champion (searchOf (kind .0)) (now labels) free (best .0) × Covers reached (now labels) ⌝ }
+    ensures { λ r. ⌜ r ≡ openIn (searchOf (kind .0)) (now (labels .entry)) free (v .0) ⌝ }
 {
-    if !bitset::contains(free, v) {
+    let number = v.0 as usize;
+    let leader = best.0 as usize;
+    if !bitset::contains(free, number) {
         return false;
     }
-    if v == best {
+    if number == leader {
         return true;
     }
-    let mine = labels[v];
-    if crate::is_ahead(kind, labels[best], mine) {
+    let mine = labels[number];
+    if crate::is_ahead(kind, labels[leader], mine) {
         return false;
     }
     if kind.0 != Kind::MNS.0 {
@@ -48,18 +51,22 @@ fn is_open(kind: Kind, labels: &[u64; 64], free: u64, reached: u64, best: usize,
     !crate::is_beaten(kind, labels, bitset::common(free, reached), mine)
 }
 
-// The entry of `list` at `i`; 0 behind its end.
-fn entry(list: &[u8], i: usize) -> u8
-    ensures { λ r. ⌜ r ≡ at (now (list .entry)) i ⌝ }
+// The vertex at `i` of `list`; 0 behind its end.
+fn entry(list: &[u8], i: usize) -> Vertex
+    ensures { λ r. ⌜ r .0 ≡ at (now (list .entry)) i ⌝ }
 {
-    if i < list.len() { list[i] } else { 0 }
+    if i < list.len() {
+        Vertex(list[i])
+    } else {
+        Vertex(0)
+    }
 }
 
 // The offered vertex that stands last in `tie_break`; its first entry where none is offered. `reached` holds every
 // vertex whose label is not empty.
-pub fn choose(kind: Kind, labels: &[u64; 64], free: u64, reached: u64, tie_break: &[u8]) -> u8
+pub fn choose(kind: Kind, labels: &[u64; 64], free: u64, reached: u64, tie_break: &[u8]) -> Vertex
     requires { ⌜ Covers reached (now labels) ⌝ }
-    ensures { λ r. ⌜ r ≡ chosenIn (searchOf (kind .0)) (now (labels .entry)) free (now («tie_break» .entry)) ⌝ }
+    ensures { λ r. ⌜ r .0 ≡ chosenIn (searchOf (kind .0)) (now (labels .entry)) free (now («tie_break» .entry)) ⌝ }
 {
     if free == 0 {
         return entry(tie_break, 0);
@@ -70,7 +77,7 @@ pub fn choose(kind: Kind, labels: &[u64; 64], free: u64, reached: u64, tie_break
     while passed < length {
         passed += 1;
         let v = entry(tie_break, length - passed);
-        if is_open(kind, labels, free, reached, best, v as usize) {
+        if is_open(kind, labels, free, reached, best, v) {
             return v;
         }
     }

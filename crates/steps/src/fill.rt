@@ -2,7 +2,6 @@
 use crate::lookup::row_of;
 use searches::Kind;
 use searches::Position;
-use searches::Vertex;
 ghost use mathlib.Core.Path.{_≡_};
 ghost use mathlib.Core.List.{_++_};
 ghost use Prim.Native.Nat.{_-_};
@@ -34,10 +33,10 @@ pub fn fill(
     let count = rows.len() - k;
     for i in 0..count {
         let v = labels::choice::choose(kind, labels, unplaced, met, tie_break);
-        tail[i] = v;
-        let row = row_of(rows, Vertex(v));
+        tail[i] = v.0;
+        let row = row_of(rows, v);
         labels::spread(labels, row, Position(k + i), rows.len());
-        unplaced = bitset::remove(unplaced, v as usize);
+        unplaced = bitset::remove(unplaced, v.0 as usize);
         met = bitset::union(met, row);
     }
 }

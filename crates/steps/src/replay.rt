@@ -1,4 +1,5 @@
 // An ordering placed again, vertex by vertex, until one was not offered.
+use crate::lookup::row_of;
 use crate::lookup::vertex_at;
 use searches::Kind;
 use searches::Position;
@@ -27,9 +28,8 @@ pub fn replay(kind: Kind, rows: &[u64], ordering: &[u8], k: usize, labels: &mut 
     let mut free = bitset::full_below(rows.len());
     let mut reached = 0u64;
     for j in 0..k {
-        let vertex = vertex_at(ordering, Position(j));
-        let b = vertex.0 as usize;
-        let mine = labels[b];
+        let b = vertex_at(ordering, Position(j));
+        let mine = labels[b.0 as usize];
         if labels::is_beaten(kind, labels, bitset::common(free, reached), mine) {
             return Placed {
                 count: j,
@@ -37,9 +37,9 @@ pub fn replay(kind: Kind, rows: &[u64], ordering: &[u8], k: usize, labels: &mut 
                 reached,
             };
         }
-        let row = rows[b];
+        let row = row_of(rows, b);
         labels::spread(labels, row, Position(j), rows.len());
-        free = bitset::remove(free, b);
+        free = bitset::remove(free, b.0 as usize);
         reached = bitset::union(reached, row);
     }
     Placed {

@@ -42,9 +42,6 @@ sub-entry c = search needs
 entry-requires-2 : tie.Need-entry-requires-2 Inv-loop μ-loop
 entry-requires-2 c κs = search needs
 
-cast-is-open : tie.Need-cast-is-open Inv-loop μ-loop
-cast-is-open c = search needs
-
 is-open-requires : tie.Need-is-open-requires Inv-loop μ-loop
 is-open-requires c κs = let found = c .before .before .before in (found .champion .ensures, found .before .before .before .pre)
 
@@ -55,7 +52,7 @@ returns-2 c =
     let a = l .before .before .before .before .args in
     let k = searchOf (a .kind .0) in
     let q = length (a .tie-break .now) - (l .loop .passed + 1) in
-    let offers = openIn k (a .labels .now) (a .free) (read .entry2 .result) in
+    let offers = openIn k (a .labels .now) (a .free) (read .entry2 .result .0) in
     chosen-found k (a .labels .now) (a .free) (a .tie-break .now) q (read .entry2 .ensures) (omega arith)
     (λ x h. l .loop .inv x (omega arith)) (said-true offers (c .before .is-open .ensures) (c .if2 .taken))
 
@@ -69,7 +66,7 @@ loop-again c =
     let a = l .before .before .before .before .args in
     let k = searchOf (a .kind .0) in
     let q = length (a .tie-break .now) - (l .loop .passed + 1) in
-    let offers = openIn k (a .labels .now) (a .free) (read .entry2 .result) in
+    let offers = openIn k (a .labels .now) (a .free) (read .entry2 .result .0) in
     closed-next k (a .labels .now) (a .free) (a .tie-break .now) q (read .entry2 .ensures) (λ x h. l .loop .inv x (omega arith))
     (said-false offers (c .before .is-open .ensures) (c .if2 .left))
 
@@ -96,7 +93,6 @@ choose-spec =
     add-passed
     sub-entry
     entry-requires-2
-    cast-is-open
     is-open-requires
     returns-2
     loop-less

@@ -7,8 +7,8 @@ use borrow.Author.Needs.{needs}
 use Rattle.labels.proofs.choice.entry.Statement.{statement}
 use Rattle.labels.proofs.choice.entry.Tie as tie
 
-shared-slice-read-result : tie.Need-shared-slice-read-result
-shared-slice-read-result c = search needs
+shared-slice-read-t7 : tie.Need-shared-slice-read-t7
+shared-slice-read-t7 c = search needs
 
 returns : tie.Need-returns
 returns c = search needs
@@ -17,4 +17,4 @@ returns-2 : tie.Need-returns-2
 returns-2 c = sym (List·getD-eq-default (c .before .args .list .now) 0 (omega arith))
 
 pub entry-spec : {M : Type 1} → statement M
-entry-spec = tie.close (tie.spec shared-slice-read-result returns returns-2)
+entry-spec = tie.close (tie.spec shared-slice-read-t7 returns returns-2)

@@ -17,29 +17,35 @@ use borrow.Author.Needs.{needs}
 use Rattle.labels.proofs.choice.is_open.Statement.{statement}
 use Rattle.labels.proofs.choice.is_open.Tie as tie
 
+cast-number : tie.Need-cast-number
+cast-number c = search needs
+
+cast-leader : tie.Need-cast-leader
+cast-leader c = search needs
+
 contains-requires : tie.Need-contains-requires
 contains-requires c κs = search needs
 
 returns : tie.Need-returns
 returns c =
-    let s = c .before .before in
+    let s = c .before .before .before .before in
     let a = s .args in
     let k = searchOf (a .kind .0) in
-    closed-outside k (a .labels .now) (a .free) (a .v) (said-false (member (a .free) (a .v)) (c .before .contains .ensures) (not-true (c .before .contains .result) (c .if1 .taken)))
+    closed-outside k (a .labels .now) (a .free) (a .v .0) (said-false (member (a .free) (a .v .0)) (c .before .contains .ensures) (not-true (c .before .contains .result) (c .if1 .taken)))
 
 returns-2 : tie.Need-returns-2
 returns-2 c =
-    let s = c .before .before .before in
+    let s = c .before .before .before .before .before in
     let a = s .args in
     let k = searchOf (a .kind .0) in
-    open-champion k (a .labels .now) (a .free) (a .best) (s .pre .0) ∙ ap (λ (v : ℕ). openIn k (a .labels .now) (a .free) v) (sym (c .if2 .taken))
+    open-champion k (a .labels .now) (a .free) (a .best .0) (s .pre .0) ∙ ap (λ (v : ℕ). openIn k (a .labels .now) (a .free) v) (sym (c .if2 .taken))
 
 -- v is free
-unplaced : (c : tie.Else2) → T (member (c .before .before .before .args .free) (c .before .before .before .args .v))
-unplaced c = let a = c .before .before .before .args in said-true (member (a .free) (a .v)) (c .before .before .contains .ensures) (not-false (c .before .before .contains .result) (c .before .if1 .left))
+unplaced : (c : tie.Else2) → let a = c .before .before .before .before .before .args in T (member (a .free) (a .v .0))
+unplaced c = let a = c .before .before .before .before .before .args in said-true (member (a .free) (a .v .0)) (c .before .before .contains .ensures) (not-false (c .before .before .contains .result) (c .before .if1 .left))
 
-inside : (c : tie.Else2) → c .before .before .before .args .v < 64
-inside c = let s = c .before .before .before in member-below 64 (s .fits .free .fits) (s .args .v) (unplaced c)
+inside : (c : tie.Else2) → c .before .before .before .before .before .args .v .0 < 64
+inside c = let s = c .before .before .before .before .before in member-below 64 (s .fits .free .fits) (s .args .v .0) (unplaced c)
 
 mul-mine : tie.Need-mul-mine
 mul-mine c = omega (arith, inside c)
@@ -48,31 +54,31 @@ element-copy-out-mine : tie.Need-element-copy-out-mine
 element-copy-out-mine c = inside c
 
 mul-is-ahead : tie.Need-mul-is-ahead
-mul-is-ahead c = let s = c .before .before .before .before in omega (arith, member-below 64 (s .fits .free .fits) (s .args .best) (s .pre .0 .inside))
+mul-is-ahead c = let s = c .before .before .before .before .before .before in omega (arith, member-below 64 (s .fits .free .fits) (s .args .best .0) (s .pre .0 .inside))
 
 element-copy-out-is-ahead : tie.Need-element-copy-out-is-ahead
-element-copy-out-is-ahead c = let s = c .before .before .before .before in member-below 64 (s .fits .free .fits) (s .args .best) (s .pre .0 .inside)
+element-copy-out-is-ahead c = let s = c .before .before .before .before .before .before in member-below 64 (s .fits .free .fits) (s .args .best .0) (s .pre .0 .inside)
 
 is-ahead-requires : tie.Need-is-ahead-requires
 is-ahead-requires c κs = search needs
 
 returns-3 : tie.Need-returns-3
 returns-3 c =
-    let s = c .before .before .before .before .before .before .before in
+    let s = c .before .before .before .before .before .before .before .before .before in
     let a = s .args in
     let k = searchOf (a .kind .0) in
-    closed-behind k (a .labels .now) (a .free) (a .best) (a .v) (member-below 64 (s .fits .free .fits) (a .best) (s .pre .0 .inside)) (s .pre .0)
-    (said-true (aheadIn k (getD (a .labels .now) (a .best) 0) (getD (a .labels .now) (a .v) 0)) (c .before .is-ahead .ensures) (c .if3 .taken))
+    closed-behind k (a .labels .now) (a .free) (a .best .0) (a .v .0) (member-below 64 (s .fits .free .fits) (a .best .0) (s .pre .0 .inside)) (s .pre .0)
+    (said-true (aheadIn k (getD (a .labels .now) (a .best .0) 0) (getD (a .labels .now) (a .v .0) 0)) (c .before .is-ahead .ensures) (c .if3 .taken))
 
 returns-4 : tie.Need-returns-4
 returns-4 c =
     let level = c .before .before .before in
     let v = level .before .before .before .before in
-    let s = v .before .before .before in
+    let s = v .before .before .before .before .before in
     let a = s .args in
     let k = searchOf (a .kind .0) in
-    open-level k (a .labels .now) (a .free) (searchOf-mns (a .kind .0) (c .if4 .taken)) (a .best) (a .v) (s .pre .0) (unplaced v)
-    (said-false (aheadIn k (getD (a .labels .now) (a .best) 0) (getD (a .labels .now) (a .v) 0)) (level .before .is-ahead .ensures) (level .if3 .left))
+    open-level k (a .labels .now) (a .free) (searchOf-mns (a .kind .0) (c .if4 .taken)) (a .best .0) (a .v .0) (s .pre .0) (unplaced v)
+    (said-false (aheadIn k (getD (a .labels .now) (a .best .0) 0) (getD (a .labels .now) (a .v .0) 0)) (level .before .is-ahead .ensures) (level .if3 .left))
 
 common-requires : tie.Need-common-requires
 common-requires c κs = search needs
@@ -83,16 +89,18 @@ is-beaten-requires c κs = search needs
 returns-5 : tie.Need-returns-5
 returns-5 c =
     let v = c .before .before .before .before .before .before .before .before .before in
-    let s = v .before .before .before in
+    let s = v .before .before .before .before .before in
     let a = s .args in
     let k = searchOf (a .kind .0) in
-    open-unbeaten k (a .labels .now) (a .free) (a .v) (c .is-beaten .result) (unplaced v)
-    (c .is-beaten .ensures ∙ beaten-reached k (a .labels .now) (a .reached) (s .pre .1) (a .free) (getD (a .labels .now) (a .v) 0) (c .before .common .ensures))
+    open-unbeaten k (a .labels .now) (a .free) (a .v .0) (c .is-beaten .result) (unplaced v)
+    (c .is-beaten .ensures ∙ beaten-reached k (a .labels .now) (a .reached) (s .pre .1) (a .free) (getD (a .labels .now) (a .v .0) 0) (c .before .common .ensures))
 
 pub is-open-spec : {M : Type 1} → statement M
 is-open-spec =
     tie.close
     (tie.spec
+    cast-number
+    cast-leader
     contains-requires
     returns
     returns-2

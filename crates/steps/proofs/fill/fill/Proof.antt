@@ -62,17 +62,18 @@ loop-less c = search needs
 
 loop-again : tie.Need-loop-again Inv-loop μ-loop
 loop-again c =
-    let chosen = c .before .before .before .before .before in
+    let placed = c .before .before .before in
+    let row = placed .before .before in
+    let chosen = row .before in
     let l = chosen .before .before .before in
     let a = l .before .before .before .before .args in
     let n = length (a .rows .now) in
     let p = a .k + l .loop .i in
-    let row-v = c .before .before .before .before .row-of .ensures in
-    let labels = c .before .before .spread .ensures ∙ ap (λ (row : ℕ). spreadTo row p n (l .loop .labels)) row-v in (
-      filling-next (searchOf (a .kind .0)) (a .rows .now) (a .tie-break .now) (a .k) (n - a .k) (a .labels .now) (a .free) (a .tail .now) (chosen .choose .result)
-          (c .before .before .spread .last .0) (c .before .remove .result) (l .loop .inv .0) (omega arith) (omega arith) (chosen .choose .ensures) labels
+    let labels = placed .spread .ensures ∙ ap (λ (x : ℕ). spreadTo x p n (l .loop .labels)) (row .row-of .ensures) in (
+      filling-next (searchOf (a .kind .0)) (a .rows .now) (a .tie-break .now) (a .k) (n - a .k) (a .labels .now) (a .free) (a .tail .now) (chosen .choose .result .0)
+          (placed .spread .last .0) (c .before .remove .result) (l .loop .inv .0) (omega arith) (omega arith) (chosen .choose .ensures) labels
           (c .before .remove .ensures),
-      covers-spread (l .loop .labels) (l .loop .met) (c .before .before .before .before .row-of .result) p n (l .loop .inv .1) (c .before .before .spread .ensures) (c .union .ensures),
+      covers-spread (l .loop .labels) (l .loop .met) (row .row-of .result) p n (l .loop .inv .1) (placed .spread .ensures) (c .union .ensures),
     )
 
 same-length : tie.Need-same-length Inv-loop μ-loop

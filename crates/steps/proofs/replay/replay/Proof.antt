@@ -3,7 +3,9 @@
 use Prim.Native.Nat.{ℕ, _<_, _≤_, _-_}
 use mathlib.Core.Path.{_≡_, sym, ap, _∙_}
 use lib.ListN.{length}
+use Rattle.bitset.specs.Word.{united}
 use Rattle.bitset.proofs.Tests.{said-true, said-false}
+use Rattle.labels.specs.Words.{spreadTo}
 use Rattle.steps.specs.Steps.{labelsAfter, freeAfter, reachedAfter, stopsAt}
 use native.Mathlib.Omega.{arith}
 use borrow.Author.Needs.{needs}
@@ -37,8 +39,8 @@ loop-holds c =
 vertex-at-requires : tie.Need-vertex-at-requires Inv-loop μ-loop
 vertex-at-requires c κs = let s = c .before .before .before .before .before in omega (arith, s .pre .long, s .pre .fits)
 
-cast-b : tie.Need-cast-b Inv-loop μ-loop
-cast-b c = omega (arith, inside (c .before))
+cast-mine : tie.Need-cast-mine Inv-loop μ-loop
+cast-mine c = omega (arith, inside (c .before))
 
 mul-mine : tie.Need-mul-mine Inv-loop μ-loop
 mul-mine c = omega (arith, inside (c .before))
@@ -65,14 +67,14 @@ returns c =
       (l .loop .inv .unplaced, (l .loop .inv .met, l .loop .inv .labelled)),
     )
 
-mul-row : tie.Need-mul-row Inv-loop μ-loop
-mul-row c = omega (arith, inside (c .before .before .before .before .before .before))
-
-shared-slice-read-row : tie.Need-shared-slice-read-row Inv-loop μ-loop
-shared-slice-read-row c = omega (arith, inside (c .before .before .before .before .before .before .before))
+row-of-requires : tie.Need-row-of-requires Inv-loop μ-loop
+row-of-requires c κs = search needs
 
 spread-requires : tie.Need-spread-requires Inv-loop μ-loop
 spread-requires c κs = search needs
+
+cast-remove : tie.Need-cast-remove Inv-loop μ-loop
+cast-remove c = search needs
 
 remove-requires : tie.Need-remove-requires Inv-loop μ-loop
 remove-requires c κs = search needs
@@ -88,17 +90,20 @@ loop-less c = search needs
 
 loop-again : tie.Need-loop-again Inv-loop μ-loop
 loop-again c =
-    let beaten = c .before .before .before .before .before .before in
+    let placed = c .before .before .before in
+    let row = placed .before .before in
+    let beaten = row .before .before in
     let v = beaten .before .before .before .before .before in
     let l = v .before .before in
     let s = l .before .before .before .before in
     let k = searchOf (s .args .kind .0) in
     let w = s .args .ordering .now in
     let r = s .args .rows .now in
-    replay-next k r w (s .args .k) (c .before .before .spread .last .0) (c .before .remove .result) (c .union .result) (l .loop .inv) (v .before .loop-test .taken) (v .vertex-at .ensures)
+    replay-next k r w (s .args .k) (placed .spread .last .0) (c .before .remove .result) (c .union .result) (l .loop .inv) (v .before .loop-test .taken) (v .vertex-at .ensures)
     (said-false (stopsAt k r w (l .loop .j)) (beaten .is-beaten .ensures ∙ asked k r w (s .args .k) (l .loop .inv) (v .vertex-at .ensures) (beaten .before .common .ensures))
-    (c .before .before .before .before .before .if1 .left))
-    (c .before .before .spread .ensures) (c .before .remove .ensures) (c .union .ensures)
+    (row .before .if1 .left))
+    (placed .spread .ensures ∙ ap (λ (x : ℕ). spreadTo x (l .loop .j) (length r) (l .loop .labels)) (row .row-of .ensures)) (c .before .remove .ensures)
+    (c .union .ensures ∙ ap (λ (x : ℕ). united (l .loop .reached) x) (row .row-of .ensures))
 
 returns-2 : tie.Need-returns-2 Inv-loop μ-loop
 returns-2 c =
@@ -124,15 +129,15 @@ replay-spec =
     full-below-requires
     loop-holds
     vertex-at-requires
-    cast-b
+    cast-mine
     mul-mine
     element-copy-out-mine
     common-requires
     is-beaten-requires
     returns
-    mul-row
-    shared-slice-read-row
+    row-of-requires
     spread-requires
+    cast-remove
     remove-requires
     union-requires
     add-j
