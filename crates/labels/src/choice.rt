@@ -14,7 +14,8 @@ fn champion(kind: Kind, labels: &[u64; 64], free: u64, reached: u64) -> Vertex
 {
     let front = bitset::common(free, reached);
     if front == 0 {
-        return Vertex(bitset::smallest(free) as u8);
+        let first = bitset::smallest(free) as u8;
+        return Vertex(first);
     }
     let mut best = bitset::smallest(front);
     let mut rest = bitset::without_smallest(front);
@@ -25,7 +26,8 @@ fn champion(kind: Kind, labels: &[u64; 64], free: u64, reached: u64) -> Vertex
         }
         rest = bitset::without_smallest(rest);
     }
-    Vertex(best as u8)
+    let leader = best as u8;
+    Vertex(leader)
 }
 
 // Whether `v` is offered. `best` is a champion: it is offered itself, and except in MNS so is whoever it is not ahead of.

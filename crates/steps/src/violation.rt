@@ -49,7 +49,8 @@ fn first_by_number(kind: Kind, labels: &[u64; 64], front: u64, i: Position, mine
     while rest != 0 {
         let c = bitset::smallest(rest);
         if labels::is_unexcused(kind, i, labels[c], mine) {
-            return Vertex(c as u8);
+            let number = c as u8;
+            return Vertex(number);
         }
         rest = bitset::without_smallest(rest);
     }

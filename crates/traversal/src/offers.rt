@@ -1,27 +1,32 @@
 // Who is offered, of the unplaced vertices and their labels.
 use searches::Kind;
+use searches::Vertex;
 ghost use mathlib.Core.Path.{_≡_};
+ghost use Prim.Native.Nat.{_≤_};
 ghost use Rattle.searches.specs.Kind.{searchOf};
 ghost use Rattle.labels.specs.Words.{openIn};
 ghost use Rattle.traversal.specs.State.{setBelow};
 
 // Whether `v` is unplaced and no unplaced vertex is ahead of it. Each is compared with it at most once.
-pub fn is_open(kind: Kind, labels: &[u64; 64], free: u64, v: usize) -> bool
-    ensures { λ r. ⌜ r ≡ openIn (searchOf (kind .0)) (now (labels .entry)) free v ⌝ }
+pub fn is_open(kind: Kind, labels: &[u64; 64], free: u64, v: Vertex) -> bool
+    ensures { λ r. ⌜ r ≡ openIn (searchOf (kind .0)) (now (labels .entry)) free (v .0) ⌝ }
 {
-    if !bitset::contains(free, v) {
+    let number = v.0 as usize;
+    if !bitset::contains(free, number) {
         return false;
     }
-    !labels::is_beaten(kind, labels, free, labels[v])
+    !labels::is_beaten(kind, labels, free, labels[number])
 }
 
 // The set of such vertices below `n`.
 pub fn open_below(kind: Kind, labels: &[u64; 64], free: u64, n: usize) -> u64
+    requires { ⌜ n ≤ 64 ⌝ }
     ensures { λ r. ⌜ r ≡ setBelow n (openIn (searchOf (kind .0)) (now (labels .entry)) free) ⌝ }
 {
     let mut set = 0u64;
     for v in 0..n {
-        if is_open(kind, labels, free, v) {
+        let number = v as u8;
+        if is_open(kind, labels, free, Vertex(number)) {
             set = bitset::insert(set, v);
         }
     }

@@ -36,7 +36,7 @@ pub fn place_refusal(
     if !bitset::contains(moment.free, v) {
         return Outcome::Refused(Refusal::AlreadyPlaced);
     }
-    if !offers::is_open(kind, &moment.labels, moment.free, v) {
+    if !offers::is_open(kind, &moment.labels, moment.free, vertex) {
         return Outcome::Refused(Refusal::NotOffered);
     }
     Outcome::Done

@@ -30,8 +30,8 @@ common-requires c κs = search needs
 smallest-requires : tie.Need-smallest-requires Inv-loop μ-loop
 smallest-requires c κs = search needs
 
-cast-t11 : tie.Need-cast-t11 Inv-loop μ-loop
-cast-t11 c =
+cast-first : tie.Need-cast-first Inv-loop μ-loop
+cast-first c =
     let s = c .before .before .before in
     omega (arith, c .smallest .ensures, first-member (s .args .free) (s .fits .free .fits) (s .pre .0) .0)
 
@@ -125,8 +125,8 @@ loop-again c =
       scan-next (l .loop .inv .1) u (λ _. said-false ahead (c .before .before .is-ahead .ensures) (t .0 .left)),
     )) (c .before .if2 .came))
 
-cast-t22 : tie.Need-cast-t22 Inv-loop μ-loop
-cast-t22 c = omega (arith, leader (c .before))
+cast-leader : tie.Need-cast-leader Inv-loop μ-loop
+cast-leader c = omega (arith, leader (c .before))
 
 returns-2 : tie.Need-returns-2 Inv-loop μ-loop
 returns-2 c =
@@ -144,7 +144,7 @@ champion-spec =
     μ-loop
     common-requires
     smallest-requires
-    cast-t11
+    cast-first
     returns
     smallest-requires-2
     without-smallest-requires
@@ -158,5 +158,5 @@ champion-spec =
     without-smallest-requires-2
     loop-less
     loop-again
-    cast-t22
+    cast-leader
     returns-2)

@@ -43,8 +43,8 @@ element-copy-out-is-unexcused c = found c .0
 is-unexcused-requires : tie.Need-is-unexcused-requires Inv-loop μ-loop
 is-unexcused-requires c κs = search needs
 
-cast-t14 : tie.Need-cast-t14 Inv-loop μ-loop
-cast-t14 c = omega (arith, found (c .before .before .before) .0)
+cast-number : tie.Need-cast-number Inv-loop μ-loop
+cast-number c = omega (arith, found (c .before .before .before) .0)
 
 returns : tie.Need-returns Inv-loop μ-loop
 returns c =
@@ -87,7 +87,7 @@ first-by-number-spec =
     mul-is-unexcused
     element-copy-out-is-unexcused
     is-unexcused-requires
-    cast-t14
+    cast-number
     returns
     without-smallest-requires
     loop-less

@@ -5,10 +5,10 @@ use mathlib.Core.Bool.{Bool}
 use lib.Dec.{T}
 use lib.ListN.{length}
 use borrow.Author.Needs.{needs}
-use Rattle.bitset.proofs.Tests.{not-true, not-false}
+use Rattle.bitset.proofs.Tests.{is-true, not-true, not-false}
 use Rattle.searches.specs.Answer.{refusalOf, number}
 use Rattle.traversal.specs.State.{plan, walk, wellFormed}
-use Rattle.traversal.proofs.WellFormed.{surveyed-passes, surveyed-words, well-formed-out, open-offers}
+use Rattle.traversal.proofs.WellFormed.{parts, surveyed-passes, surveyed-words, well-formed-out, open-offers}
 use Rattle.traversal.proofs.Answered.{offered-whole, offered-refused}
 use Rattle.traversal.proofs.Traversal.offered.Statement.{statement}
 use Rattle.traversal.proofs.Traversal.offered.Tie as tie
@@ -34,8 +34,17 @@ returns c =
     let refused = offered-refused t (sym (surveyed-passes t (asked .ensures)) ∙ not-true (asked .result .passes) (c .if1 .taken)) in
     (refl, (refused .0, refused .1))
 
+-- what is known once 13 does not apply
+sound : (c : tie.Else1) → T (wellFormed (c .before .before .before .before .before .before .before .args .self))
+sound c =
+    let asked = c .before .survey in
+    let t = c .before .before .before .before .before .before .before .args .self in
+    subst (λ (b : Bool). T b) (sym (not-false (asked .result .passes) (c .if1 .left)) ∙ surveyed-passes t (asked .ensures)) tt
+
 open-below-requires : tie.Need-open-below-requires
-open-below-requires c κs = search needs
+open-below-requires c κs =
+    let past = c .before .before in
+    parts (past .before .before .before .before .before .before .before .args .self) (sound past) .points
 
 returns-2 : tie.Need-returns-2
 unfolding refusalOf plan walk
@@ -44,13 +53,10 @@ returns-2 c =
     let asked = past .before .survey in
     let s = past .before .before .before .before .before .before .before in
     let t = s .args .self in
-    let yes = not-false (asked .result .passes) (past .if1 .left) in
-    let told = surveyed-passes t (asked .ensures) in
-    let sound : T (wellFormed t) = subst (λ (b : Bool). T b) (sym yes ∙ told) tt in
     let full = arrays s in
-    let words = surveyed-words t (full .0) (full .1) (asked .ensures) sound in
-    let formed = well-formed-out t (full .0) (full .1) sound in
-    let whole = offered-whole t (sym told ∙ yes) (open-offers t (full .0) (full .1) formed (words .0) (words .1)) in
+    let words = surveyed-words t (full .0) (full .1) (asked .ensures) (sound past) in
+    let formed = well-formed-out t (full .0) (full .1) (sound past) in
+    let whole = offered-whole t (is-true (wellFormed t) (sound past)) (open-offers t (full .0) (full .1) formed (words .0) (words .1)) in
     (refl, (c .open-below .ensures ∙ whole .0, whole .1))
 
 pub offered-spec : {M : Type 1} → statement M

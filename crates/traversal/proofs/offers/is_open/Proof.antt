@@ -12,21 +12,24 @@ use borrow.Author.Needs.{needs}
 use Rattle.traversal.proofs.offers.is_open.Statement.{statement}
 use Rattle.traversal.proofs.offers.is_open.Tie as tie
 
+cast-number : tie.Need-cast-number
+cast-number c = search needs
+
 contains-requires : tie.Need-contains-requires
 contains-requires c κs = search needs
 
 returns : tie.Need-returns
 returns c =
-    let s = c .before .before in
-    closed-outside (searchOf (s .args .kind .0)) (s .args .labels .now) (s .args .free) (s .args .v)
-    (said-false (member (s .args .free) (s .args .v)) (c .before .contains .ensures) (not-true (c .before .contains .result) (c .if1 .taken)))
+    let s = c .before .before .before in
+    closed-outside (searchOf (s .args .kind .0)) (s .args .labels .now) (s .args .free) (s .args .v .0)
+    (said-false (member (s .args .free) (s .args .v .0)) (c .before .contains .ensures) (not-true (c .before .contains .result) (c .if1 .taken)))
 
 -- v is one of the free
-inside : (c : tie.Else1) → T (member (c .before .before .args .free) (c .before .before .args .v)) × (c .before .before .args .v < 64)
+inside : (c : tie.Else1) → let a = c .before .before .before .args in T (member (a .free) (a .v .0)) × (a .v .0 < 64)
 inside c =
-    let s = c .before .before in
-    let t = said-true (member (s .args .free) (s .args .v)) (c .before .contains .ensures) (not-false (c .before .contains .result) (c .if1 .left)) in
-    (t, member-below 64 (s .fits .free .fits) (s .args .v) t)
+    let s = c .before .before .before in
+    let t = said-true (member (s .args .free) (s .args .v .0)) (c .before .contains .ensures) (not-false (c .before .contains .result) (c .if1 .left)) in
+    (t, member-below 64 (s .fits .free .fits) (s .args .v .0) t)
 
 mul-is-beaten : tie.Need-mul-is-beaten
 mul-is-beaten c = omega (arith, inside c .1)
@@ -40,13 +43,14 @@ is-beaten-requires c κs = search needs
 returns-2 : tie.Need-returns-2
 returns-2 c =
     let free = c .before .before in
-    let s = free .before .before in
-    open-unbeaten (searchOf (s .args .kind .0)) (s .args .labels .now) (s .args .free) (s .args .v) (c .is-beaten .result) (inside free .0) (c .is-beaten .ensures)
+    let s = free .before .before .before in
+    open-unbeaten (searchOf (s .args .kind .0)) (s .args .labels .now) (s .args .free) (s .args .v .0) (c .is-beaten .result) (inside free .0) (c .is-beaten .ensures)
 
 pub is-open-spec : {M : Type 1} → statement M
 is-open-spec =
     tie.close
     (tie.spec
+    cast-number
     contains-requires
     returns
     mul-is-beaten

@@ -22,6 +22,9 @@ loop-holds : tie.Need-loop-holds Inv-loop μ-loop
 unfolding setBelow
 loop-holds c = (omega arith, refl)
 
+cast-number : tie.Need-cast-number Inv-loop μ-loop
+cast-number c = omega (arith, c .before .before .pre)
+
 is-open-requires : tie.Need-is-open-requires Inv-loop μ-loop
 is-open-requires c κs = search needs
 
@@ -59,6 +62,7 @@ open-below-spec =
     Inv-loop
     μ-loop
     loop-holds
+    cast-number
     is-open-requires
     insert-requires
     add-v
