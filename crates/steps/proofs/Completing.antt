@@ -115,6 +115,11 @@ module _ (s : Search) (rows w labels : List ℕ) (free k j i : ℕ) {front mine 
         let is = cond-no (ltb e k) (at w e) (e - k) (λ t. omega (arith, ltb→lt e k t)) in
         (is, ap (λ (v : ℕ). violatesIn s rows w labels free j i v) is ∙ sym (completes-same (e - k)))
 
+    number-last : (c : ℕ) → T (test c) → T (last (k + c))
+    number-last c holds =
+        let z : k + c - k ≡ c = omega arith in
+        subst (λ (b : Bool). T b) (sym (last-number (k + c) (omega arith) .1)) (subst (λ (x : ℕ). T (test x)) (sym z) holds)
+
     -- a candidate that violates completes
     last-out : (e : ℕ) → T (last e) → T (test (third w k e))
     unfolding lastIn
@@ -126,10 +131,7 @@ module _ (s : Search) (rows w labels : List ℕ) (free k j i : ℕ) {front mine 
     unfolding firstIn
     first-there {c} e l =
         let holds : T (test c) = subst (λ (x : ℕ). T (test x)) (sym e) (first 64 test .holds (omega arith)) in
-        let vertex = completes-vertex c holds in
-        let z : k + c - k ≡ c = omega arith in
-        any-at (k + n) last (k + c) (omega arith)
-        (subst (λ (b : Bool). T b) (sym (last-number (k + c) (omega arith) .1)) (subst (λ (x : ℕ). T (test x)) (sym z) holds))
+        any-at (k + n) last (k + c) (omega (arith, completes-vertex c holds)) (number-last c holds)
 
     pub first-nowhere : {c : ℕ} → c ≡ firstBelow 64 test → 64 ≤ c → T (firstIn s rows w labels free j k i) → ⊥
     unfolding firstIn
@@ -152,9 +154,9 @@ module _ (s : Search) (rows w labels : List ℕ) (free k j i : ℕ) {front mine 
         let holds = subst (λ (b : Bool). T b) (last-placed e inside .1) t in
         first k behind .least e (omega arith) (and-in (ltb j e) (test (at w e)) (lt→ltb j e (completes-behind e inside holds)) holds)
 
-    by-place : firstBelow k behind < k → IsFirst (k + n) last (firstBelow k behind)
+    by-position : firstBelow k behind < k → IsFirst (k + n) last (firstBelow k behind)
     unfolding behindIn
-    by-place l =
+    by-position l =
         let p = firstBelow k behind in
         record {
           within = omega arith;
@@ -167,10 +169,9 @@ module _ (s : Search) (rows w labels : List ℕ) (free k j i : ℕ) {front mine 
         let c = firstBelow 64 test in
         let found : c < 64 = found-below (below-or c 64) in
         let holds = first 64 test .holds found in
-        let z : k + c - k ≡ c = omega arith in
         record {
           within = omega (arith, completes-vertex c holds);
-          holds = λ _. subst (λ (b : Bool). T b) (sym (last-number (k + c) (omega arith) .1)) (subst (λ (x : ℕ). T (test x)) (sym z) holds);
+          holds = λ _. number-last c holds;
           least = λ e h u. before e h u (below-or e k);
         }
       where
@@ -194,7 +195,7 @@ module _ (s : Search) (rows w labels : List ℕ) (free k j i : ℕ) {front mine 
 
         go : (p < k) ⊎ (k ≤ p) → cond (ltb p k) (at w p) number ≡ third w k (firstBelow (k + n) last)
         go (inl l) =
-            cond-yes (ltb p k) (at w p) number (lt→ltb p k l) ∙ sym (last-placed p l .0) ∙ ap (λ (x : ℕ). third w k x) (first-unique (by-place l))
+            cond-yes (ltb p k) (at w p) number (lt→ltb p k l) ∙ sym (last-placed p l .0) ∙ ap (λ (x : ℕ). third w k x) (first-unique (by-position l))
         go (inr l) =
             let z : number ≡ k + number - k = omega arith in
             cond-no (ltb p k) (at w p) number (λ u. omega (arith, ltb→lt p k u)) ∙ z ∙ sym (last-number (k + number) (omega arith) .0)

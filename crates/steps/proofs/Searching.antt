@@ -2,7 +2,7 @@
 --   completes-outside, completes-inside   the test of one vertex, answer by answer
 --   scanned-first, scanned-none    a scan of the front that stops at the smallest number that completes a violation
 --   behind-start, behind-same      where the loop over the positions behind j begins, and what it asks at one of them
---   last-by-place, last-by-number  what the two steps answer together
+--   last-by-position, last-by-number  what the two steps answer together
 --   first-starts, shown            what the searches find is the first violation
 -- Assumes nothing.
 use mathlib.Core.Path.{_≡_, sym, ap, ap₂, _∙_, subst}
@@ -70,10 +70,10 @@ module _ (s : Search) (labels : List ℕ) (front i mine : ℕ) where
   behind-same w j p l stands e =
       e ∙ ap (completesIn s labels front i mine) stands ∙ ap (λ (b : Bool). b && completesIn s labels front i mine (at w p)) (sym (is-true (ltb j p) (lt→ltb j p l)))
 
-  pub last-by-place : (w : List ℕ) (j k : ℕ) {p c : ℕ} → p ≡ firstBelow k (behindIn s labels front i mine w j) → p < k → c ≡ at w p
+  pub last-by-position : (w : List ℕ) (j k : ℕ) {p c : ℕ} → p ≡ firstBelow k (behindIn s labels front i mine w j) → p < k → c ≡ at w p
       → c ≡ lastOf s labels front i mine w j k
   unfolding lastOf
-  last-by-place w j k {p} e l stands =
+  last-by-position w j k {p} e l stands =
       let first-behind = firstBelow k (behindIn s labels front i mine w j) in
       stands ∙ ap (at w) e
       ∙ sym (cond-yes (ltb first-behind k) (at w first-behind) (firstBelow 64 (completesIn s labels front i mine)) (lt→ltb first-behind k (omega arith)))

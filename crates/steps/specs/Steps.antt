@@ -2,14 +2,14 @@
 --   labelsAfter rows w j          the labels after the first j vertices of w
 --   freeAfter n w j               the vertices below n that are not among the first j of w
 --   reachedAfter rows w j         the vertices that the first j of w lead to
+--   frontIn rows free a b         the free vertices that a leads to; none where it leads to b, too
 --   stopsAt s rows w j            the vertex at position j of w is beaten when its turn comes
 --   violatesIn s rows w labels free j i c   the vertices at i and j and c are a violation, seen at j's turn
 --   lastIn, firstIn               candidate e for c, position i of a take part in one
---   frontIn rows free a b         the free vertices that a leads to; none where it leads to b, too
---   completesIn s labels front i mine c   c is one of `front`, and nothing in b's label `mine` excuses position i against c's
---   behindIn .. w j p             likewise the vertex at position p of w, which is behind j
---   lastOf .. w j k               the first such c: by position behind j, else by number
 --   firstFault s rows w labels free j k   the first violation with the vertex at position j, as judge shows it
+--   completesIn s labels front i mine c   c is one of `front`, and nothing in b's label `mine` excuses position i against c's
+--   behindIn s labels front i mine w j p  p is behind j, and the vertex there is such a c
+--   lastOf s labels front i mine w j k    the first such c: by position behind j, where there is none by number
 --   fillIn s rows t m p labels free   the m vertices chosen from position p on
 --   Replayable rows w k labels    the first k entries of w are vertices of a graph of at most 64, and the labels are empty
 --   Searchable rows w k free j    likewise, j is one of the first k positions, and free the vertices that are unplaced at its turn

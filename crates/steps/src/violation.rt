@@ -28,7 +28,8 @@ fn front_of(rows: &[u64], free: u64, a: Vertex, b: Vertex) -> u64
     }
 }
 
-// Whether `c` is one of `front` and nothing in `mine` excuses position `i` against its label.
+// Whether `c` completes a violation with the vertex at position `i` and one whose label is `mine`: it is in the front of these two, and nothing
+// in `mine` excuses position `i` against its label.
 fn completes(kind: Kind, labels: &[u64; 64], front: u64, i: Position, mine: u64, c: Vertex) -> bool
     requires { ⌜ i .0 < 64 ⌝ }
     ensures { λ r. ⌜ r ≡ completesIn (searchOf (kind .0)) (now (labels .entry)) front (i .0) mine (c .0) ⌝ }
@@ -40,7 +41,7 @@ fn completes(kind: Kind, labels: &[u64; 64], front: u64, i: Position, mine: u64,
     labels::is_unexcused(kind, i, labels[last], mine)
 }
 
-// Of the vertices that complete a violation, the one with the smallest number; 64 where there is none.
+// Of the vertices that complete a violation the one with the smallest number; 64 where there is none.
 fn first_by_number(kind: Kind, labels: &[u64; 64], front: u64, i: Position, mine: u64) -> Vertex
     requires { ⌜ i .0 < 64 ⌝ }
     ensures { λ r. ⌜ r .0 ≡ firstBelow 64 (completesIn (searchOf (kind .0)) (now (labels .entry)) front (i .0) mine) ⌝ }
@@ -58,7 +59,7 @@ fn first_by_number(kind: Kind, labels: &[u64; 64], front: u64, i: Position, mine
 }
 
 // The first position behind `j` and below `k` with a vertex that completes a violation; `k` where there is none.
-fn first_by_place(
+fn first_by_position(
     kind: Kind,
     ordering: &[u8],
     k: usize,
@@ -82,7 +83,7 @@ fn first_by_place(
     Position(k)
 }
 
-// The third vertex: the first behind `j` that completes a violation, where none does the one with the smallest number.
+// The third vertex of the first violation: by position behind `j`, and where none is found there by number.
 fn first_last(
     kind: Kind,
     ordering: &[u8],
@@ -96,7 +97,7 @@ fn first_last(
     requires { ⌜ (j .0 < k) × ((k ≤ length (now ordering)) × (i .0 < 64)) ⌝ }
     ensures { λ r. ⌜ r .0 ≡ lastOf (searchOf (kind .0)) (now (labels .entry)) front (i .0) mine (now (ordering .entry)) (j .0) k ⌝ }
 {
-    let position = first_by_place(kind, ordering, k, labels, front, j, i, mine);
+    let position = first_by_position(kind, ordering, k, labels, front, j, i, mine);
     if position.0 < k {
         return vertex_at(ordering, position);
     }

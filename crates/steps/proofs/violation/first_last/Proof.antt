@@ -2,12 +2,12 @@
 -- Assumes nothing.
 use borrow.Author.Needs.{needs}
 use Rattle.searches.specs.Kind.{searchOf}
-use Rattle.steps.proofs.Searching.{last-by-place, last-by-number}
+use Rattle.steps.proofs.Searching.{last-by-position, last-by-number}
 use Rattle.steps.proofs.violation.first_last.Statement.{statement}
 use Rattle.steps.proofs.violation.first_last.Tie as tie
 
-first-by-place-requires : tie.Need-first-by-place-requires
-first-by-place-requires c κs = search needs
+first-by-position-requires : tie.Need-first-by-position-requires
+first-by-position-requires c κs = search needs
 
 vertex-at-requires : tie.Need-vertex-at-requires
 vertex-at-requires c κs = search needs
@@ -16,7 +16,7 @@ returns : tie.Need-returns
 returns c =
     let f = c .before .before .before in
     let a = f .before .before .args in
-    last-by-place (searchOf (a .kind .0)) (a .labels .now) (a .front) (a .i .0) (a .mine) (a .ordering .now) (a .j .0) (a .k) (f .first-by-place .ensures)
+    last-by-position (searchOf (a .kind .0)) (a .labels .now) (a .front) (a .i .0) (a .mine) (a .ordering .now) (a .j .0) (a .k) (f .first-by-position .ensures)
     (c .before .if1 .taken) (c .vertex-at .ensures)
 
 first-by-number-requires : tie.Need-first-by-number-requires
@@ -26,14 +26,14 @@ returns-2 : tie.Need-returns-2
 returns-2 c =
     let f = c .before .before .before in
     let a = f .before .before .args in
-    last-by-number (searchOf (a .kind .0)) (a .labels .now) (a .front) (a .i .0) (a .mine) (a .ordering .now) (a .j .0) (a .k) (f .first-by-place .ensures)
+    last-by-number (searchOf (a .kind .0)) (a .labels .now) (a .front) (a .i .0) (a .mine) (a .ordering .now) (a .j .0) (a .k) (f .first-by-position .ensures)
     (c .before .if1 .left) (c .first-by-number .ensures)
 
 pub first-last-spec : {M : Type 1} → statement M
 first-last-spec =
     tie.close
     (tie.spec
-    first-by-place-requires
+    first-by-position-requires
     vertex-at-requires
     returns
     first-by-number-requires

@@ -1,4 +1,4 @@
--- `steps::violation::first_by_place` meets its contract: no position that was passed has a vertex that completes a violation.
+-- `steps::violation::first_by_position` meets its contract: no position that was passed has a vertex that completes a violation.
 -- Assumes nothing.
 use Prim.Native.Nat.{_-_, _<_}
 use mathlib.Core.Path.{_≡_, sym, _∙_}
@@ -8,8 +8,8 @@ use Rattle.bitset.proofs.Passed.{Passed, passed-more, first-found, first-unfoun
 use Rattle.searches.specs.Kind.{searchOf}
 use Rattle.steps.specs.Steps.{behindIn}
 use Rattle.steps.proofs.Searching.{behind-start, behind-same}
-use Rattle.steps.proofs.violation.first_by_place.Statement.{statement}
-use Rattle.steps.proofs.violation.first_by_place.Tie as tie
+use Rattle.steps.proofs.violation.first_by_position.Statement.{statement}
+use Rattle.steps.proofs.violation.first_by_position.Tie as tie
 
 abbrev Inv-loop : tie.InvT-loop
 Inv-loop kind ordering k labels front i mine middle behind p₀ p = Passed k (behindIn (searchOf (kind .0)) labels front (i .0) mine ordering middle) p × (middle < p)
@@ -59,8 +59,8 @@ loop-again c =
 returns-2 : tie.Need-returns-2 Inv-loop μ-loop
 returns-2 c = first-unfound (c .before .loop .inv .0) (c .loop-test .left)
 
-pub first-by-place-spec : {M : Type 1} → statement M
-first-by-place-spec =
+pub first-by-position-spec : {M : Type 1} → statement M
+first-by-position-spec =
     tie.close
     (tie.spec
     Inv-loop
