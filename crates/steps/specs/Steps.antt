@@ -13,6 +13,7 @@
 --   fillIn s rows t m p labels free   the m vertices chosen from position p on
 --   Replayable rows w k labels    the first k entries of w are vertices of a graph of at most 64, and the labels are empty
 --   Searchable rows w k free j    likewise, j is one of the first k positions, and free the vertices that are unplaced at its turn
+--   Positioned w k j i            w has k positions, j is one of them, and i is the number of a bit of a label
 --   Fillable rows tail k labels reached   tail has room for the vertices from position k on, and nobody outside `reached` has a label
 use Prim.Native.Nat.{ℕ, zero, suc, _+_, _-_, _≤_, _<_}
 use mathlib.Core.Path.{_≡_}
@@ -98,6 +99,11 @@ pub record Searchable (rows w : List ℕ) (k free j : ℕ) : Type 0 where
   pub small : length rows ≤ 64
   pub vertices : (p : ℕ) → p < k → at w p < length rows
   pub unplaced : free ≡ freeAfter (length rows) w j
+
+pub record Positioned (w : List ℕ) (k j i : ℕ) : Type 0 where
+  pub long : k ≤ length w
+  pub inside : j < k
+  pub bit : i < 64
 
 pub record Fillable (rows tail : List ℕ) (k : ℕ) (labels : List ℕ) (reached : ℕ) : Type 0 where
   pub fits : k ≤ length rows

@@ -7,14 +7,13 @@ use searches::Position;
 use searches::Vertex;
 use searches::Violation;
 ghost use mathlib.Core.Path.{_≡_};
-ghost use Prim.Native.Nat.{_<_, _≤_};
-ghost use lib.ListN.{length};
+ghost use Prim.Native.Nat.{_<_};
 ghost use lib.Dec.{T};
 ghost use Rattle.bitset.specs.Below.{anyBelow, firstBelow};
 ghost use Rattle.searches.specs.Kind.{searchOf};
 ghost use Rattle.searches.specs.Answer.{verdictOf};
 ghost use Rattle.searches.specs.declared.Judgement.{Judgement};
-ghost use Rattle.steps.specs.Steps.{frontIn, completesIn, behindIn, lastOf, firstIn, Searchable, firstFault};
+ghost use Rattle.steps.specs.Steps.{frontIn, completesIn, behindIn, lastOf, firstIn, Searchable, Positioned, firstFault};
 
 // The vertices of `free` that `a` leads to; none where `a` leads to `b`, too.
 fn front_of(rows: &[u64], free: u64, a: Vertex, b: Vertex) -> u64
@@ -69,7 +68,7 @@ fn first_by_position(
     i: Position,
     mine: u64,
 ) -> Position
-    requires { ⌜ (j .0 < k) × ((k ≤ length (now ordering)) × (i .0 < 64)) ⌝ }
+    requires { ⌜ Positioned (now ordering) k (j .0) (i .0) ⌝ }
     ensures { λ r. ⌜ r .0 ≡ firstBelow k (behindIn (searchOf (kind .0)) (now (labels .entry)) front (i .0) mine (now (ordering .entry)) (j .0)) ⌝ }
 {
     let middle = j.0;
@@ -94,7 +93,7 @@ fn first_last(
     i: Position,
     mine: u64,
 ) -> Vertex
-    requires { ⌜ (j .0 < k) × ((k ≤ length (now ordering)) × (i .0 < 64)) ⌝ }
+    requires { ⌜ Positioned (now ordering) k (j .0) (i .0) ⌝ }
     ensures { λ r. ⌜ r .0 ≡ lastOf (searchOf (kind .0)) (now (labels .entry)) front (i .0) mine (now (ordering .entry)) (j .0) k ⌝ }
 {
     let position = first_by_position(kind, ordering, k, labels, front, j, i, mine);

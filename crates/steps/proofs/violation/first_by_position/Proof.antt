@@ -23,13 +23,13 @@ add-behind c = search needs
 loop-holds : tie.Need-loop-holds Inv-loop μ-loop
 loop-holds c =
     let a = c .before .args in
-    (behind-start (searchOf (a .kind .0)) (a .labels .now) (a .front) (a .i .0) (a .mine) (a .ordering .now) (a .j .0) (a .k) (c .before .pre .0), omega arith)
+    (behind-start (searchOf (a .kind .0)) (a .labels .now) (a .front) (a .i .0) (a .mine) (a .ordering .now) (a .j .0) (a .k) (c .before .pre .inside), omega arith)
 
 vertex-at-requires : tie.Need-vertex-at-requires Inv-loop μ-loop
-vertex-at-requires c κs = let s = c .before .before .before in omega (arith, s .pre .1 .0)
+vertex-at-requires c κs = let s = c .before .before .before in omega (arith, s .pre .long)
 
 completes-requires : tie.Need-completes-requires Inv-loop μ-loop
-completes-requires c κs = c .before .before .before .before .pre .1 .1
+completes-requires c κs = c .before .before .before .before .pre .bit
 
 -- what was answered of the vertex at p is the test
 answered : (c : tie.After-completes Inv-loop μ-loop)

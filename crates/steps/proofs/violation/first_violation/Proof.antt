@@ -52,7 +52,11 @@ first-last-requires : tie.Need-first-last-requires
 first-last-requires c κs =
     let f = c .before .before .before .before .before in
     let s = f .before .before .before in
-    (s .pre .0 .inside, (s .pre .0 .long, omega (arith, starts f .0, s .pre .0 .inside, s .pre .0 .fits, s .pre .0 .small)))
+    record {
+      long = s .pre .0 .long;
+      inside = s .pre .0 .inside;
+      bit = omega (arith, starts f .0, s .pre .0 .inside, s .pre .0 .fits, s .pre .0 .small);
+    }
 
 returns : tie.Need-returns
 unfolding verdictOf
