@@ -1,0 +1,97 @@
+//! The timing.
+
+use std::hint::black_box;
+use std::time::{Duration, Instant};
+
+use outside::definition::Kind;
+use outside::{bitset, entry};
+
+use crate::inputs::Input;
+
+const ROUNDS: usize = 40;
+const ROUND_TIME: Duration = Duration::from_micros(1500);
+
+/// One implementation of the two calls.
+pub struct Implementation {
+    judge: fn(Kind, &[u8], &[u8]) -> u32,
+    carry_on: fn(Kind, &[u8], &[u8], &mut [u8], usize) -> u32,
+}
+
+pub const LIBRARY: Implementation =
+    Implementation { judge: entry::judge, carry_on: entry::carry_on };
+pub const BIT_SETS: Implementation =
+    Implementation { judge: bitset::judge, carry_on: bitset::carry_on };
+
+impl Implementation {
+    /// The walk that carry-on makes from nothing.
+    fn carried_on(&self, input: &Input) -> Vec<u8> {
+        let mut output = vec![0; input.walk.len()];
+        assert_eq!((self.carry_on)(input.kind, &input.plan, &input.tie_break, &mut output, 0), 0);
+        output
+    }
+}
+
+/// The two implementations agree on every input, and judge's answer is as expected.
+pub fn check(inputs: &[Input], expected: fn(u32) -> bool) {
+    for input in inputs {
+        let judged = |by: &Implementation| (by.judge)(input.kind, &input.plan, &input.walk);
+        assert!(expected(judged(&LIBRARY)));
+        assert_eq!(judged(&LIBRARY), judged(&BIT_SETS));
+        assert_eq!(LIBRARY.carried_on(input), BIT_SETS.carried_on(input));
+    }
+}
+
+/// One call for each input.
+pub type Pass = fn(&Implementation, &[Input]);
+
+pub fn judge_all(by: &Implementation, inputs: &[Input]) {
+    for input in inputs {
+        let Input { kind, plan, walk, .. } = black_box(input);
+        black_box((by.judge)(*kind, plan, walk));
+    }
+}
+
+/// Each carry-on starts from nothing.
+pub fn carry_on_all(by: &Implementation, inputs: &[Input]) {
+    let mut buffer = [0; 64];
+    for input in inputs {
+        let Input { kind, plan, walk, tie_break } = black_box(input);
+        let output = black_box(&mut buffer[..walk.len()]);
+        black_box((by.carry_on)(*kind, plan, tie_break, output, 0));
+    }
+}
+
+/// Nanoseconds per call for each implementation: the best of its rounds. The implementations take turns.
+pub fn race<const N: usize>(
+    implementations: &[Implementation; N],
+    pass: Pass,
+    inputs: &[Input],
+) -> [f64; N] {
+    let counts = implementations.each_ref().map(|by| repetitions(by, pass, inputs));
+    let mut best = [f64::MAX; N];
+    for _ in 0..ROUNDS {
+        for i in 0..N {
+            let taken = time(&implementations[i], pass, inputs, counts[i]);
+            let calls = counts[i] as f64 * inputs.len() as f64;
+            best[i] = best[i].min(taken.as_nanos() as f64 / calls);
+        }
+    }
+    best
+}
+
+/// How many passes make a round.
+fn repetitions(by: &Implementation, pass: Pass, inputs: &[Input]) -> u32 {
+    let mut count = 1;
+    while time(by, pass, inputs, count) < ROUND_TIME {
+        count *= 2;
+    }
+    count
+}
+
+fn time(by: &Implementation, pass: Pass, inputs: &[Input], count: u32) -> Duration {
+    let start = Instant::now();
+    for _ in 0..count {
+        pass(black_box(by), inputs);
+    }
+    start.elapsed()
+}
