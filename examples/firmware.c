@@ -1,4 +1,4 @@
-/* Judges one walk by all kinds and carries another on, with the plans P and C of 01. */
+/* Judges a walk over plan P by all kinds, and carries a walk on over plan C, a ring of four points. docs/MODEL.md has both. */
 #include <stdio.h>
 
 #include "vezhanip.h"

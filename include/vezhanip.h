@@ -1,20 +1,49 @@
 /*
- * Judging and carrying on walks over a plan.
+ * Judging and carrying on walks over a plan. docs/MODEL.md explains plans,
+ * walks, the six searches, fault triples and refusals, with examples.
  *
- * Plan:             8 * n bytes for n points, n from 0 to 64: one row a point,
- *                   eight bytes a row, lowest byte first. Bit v of row u
- *                   (value 2^v) is set when u and v are linked. Every link
- *                   stands in both of its rows, no point is linked to itself.
+ * Lists
+ *
+ * Plan:             8 * n bytes for n points, n from 0 to 64: one row for each
+ *                   point, eight bytes a row, lowest byte first. Bit v of row u
+ *                   (value 2^v) is set when u and v are linked. Every link is
+ *                   in both of its rows, no point is linked to itself.
  * Walk:             up to n distinct points in the order in which they were
  *                   placed, one byte each, each below n.
- * Preference list:  all n points, one byte each.
+ * Preference list:  all n points, each once, one byte each.
  *
- * Lengths are in bytes. No pointer may be NULL, not even that of an empty
- * list: give any non-null pointer there, nothing is read through it. The
- * output list must not overlap another list of the same call.
+ * Lengths are in bytes, and each pointer must lead to as many bytes as its
+ * length says. No pointer may be NULL, not even that of an empty list: pass any
+ * non-null pointer there, nothing is read through it. The output list must not
+ * overlap another list of the same call. Apart from that any values may be
+ * passed: what is not as described above is refused with a number.
+ *
+ * Kind
+ *
+ * The kind is one byte. C converts a wider value silently: 256 becomes 0, which
+ * is Generic (compilers warn about such a constant, and about a variable only
+ * with -Wconversion). Check a wider value before the call.
+ *
+ * Concurrency, stack, target
+ *
+ * The functions keep no state between calls and have no writable globals. Calls
+ * may run at the same time, in threads and in interrupt handlers, as long as
+ * none of them is given a list that another one is writing.
+ * No recursion, no heap. Stack: 1,184 bytes for judge, 1,152 for carry-on,
+ * without the frames of the caller and of memset and memcpy.
+ * The archive libfirmware.a is for x86-64 Linux (ELF, System V ABI). It needs
+ * memset and memcpy, and nothing else.
  */
 #ifndef VEZHANIP_H
 #define VEZHANIP_H
+
+/* The version of this interface. */
+#define VEZHANIP_VERSION_MAJOR 1
+#define VEZHANIP_VERSION_MINOR 0
+#define VEZHANIP_VERSION_PATCH 0
+#define VEZHANIP_VERSION                                         \
+    (VEZHANIP_VERSION_MAJOR * 10000 + VEZHANIP_VERSION_MINOR * 100 \
+     + VEZHANIP_VERSION_PATCH)
 
 #include <stddef.h>
 #include <stdint.h>
@@ -34,7 +63,7 @@ extern "C" {
 /* The walk passes, or the carry-on is finished. */
 #define VEZHANIP_OK 0u
 
-/* Refusals. A refused call alters no list. */
+/* Refusals. A refused call changes no list. */
 #define VEZHANIP_BAD_KIND           1u  /* kind above 5 */
 #define VEZHANIP_BAD_PLAN_SIZE      2u  /* more than 64 rows, or bytes not a multiple of eight */
 #define VEZHANIP_LINK_OUTSIDE       3u  /* a bit at or above n in some row */
@@ -49,8 +78,20 @@ extern "C" {
 
 /*
  * A failed walk: VEZHANIP_FAILED + 65536 * a + 256 * b + c, where a, b, c is
- * its first fault triple: b was placed although a, placed before it, is linked
- * to c and not to b.
+ * its first fault triple. In a fault triple a is placed before b, c is placed
+ * after b or not placed at all, a is linked to c and not to b, and no point d
+ * excuses b. An excuse d is linked to b and placed before b, and
+ *
+ *   Generic  nothing more is asked of it
+ *   BFS      it is placed before a
+ *   DFS      it is placed after a
+ *   LexBFS   it is placed before a and not linked to c
+ *   LexDFS   it is placed after a and not linked to c
+ *   MNS      it is not linked to c
+ *
+ * The first triple has the earliest placed b, then the earliest placed a, then
+ * the first c: placed points come first, by place, then the unplaced ones, by
+ * number. So c may be a point that is not in the walk.
  */
 #define VEZHANIP_FAILED          16777216u
 #define VEZHANIP_HAS_FAILED(code) ((code) >= VEZHANIP_FAILED)
@@ -59,8 +100,8 @@ extern "C" {
 #define VEZHANIP_FAULT_C(code)    ((uint8_t)((code) & 255u))
 
 /*
- * Judges a walk. Answers VEZHANIP_OK, a failure, or the first refusal that
- * applies in the order 1, 2, 3, 4, 5, 6, 8, 9. Reads both lists, writes none.
+ * Judges a walk. Returns VEZHANIP_OK, a failure, or the first refusal that
+ * applies, in the order 1, 2, 3, 4, 5, 6, 8, 9. Reads both lists, writes none.
  */
 uint32_t vezhanip_judge(uint8_t kind,
                         const uint8_t *plan, size_t plan_len,
@@ -68,13 +109,13 @@ uint32_t vezhanip_judge(uint8_t kind,
 
 /*
  * Carries a walk on until all n points are placed. The first k bytes of the
- * output are the walk so far. At each step, among the points that the search
+ * output are the walk so far. At each step, of the points that the search
  * offers, the one that stands last in the preference list is placed.
  *
- * Answers VEZHANIP_OK, or the first refusal that applies in the order 1, 2, 3,
- * 4, 5, 6, 10, 7, 8, 9, 12. Reads the plan, the preference list and
- * output[0] to output[k - 1]. On VEZHANIP_OK output[k] to output[n - 1] are
- * written; the bytes before and after them stay as they were.
+ * Returns VEZHANIP_OK, or the first refusal that applies, in the order 1, 2, 3,
+ * 4, 5, 6, 10, 7, 8, 9, 12. Reads the plan, the preference list and output[0]
+ * to output[k - 1]. On VEZHANIP_OK output[k] to output[n - 1] are written; the
+ * bytes before and after them stay as they were.
  */
 uint32_t vezhanip_carry_on(uint8_t kind,
                            const uint8_t *plan, size_t plan_len,
