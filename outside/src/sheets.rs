@@ -1,11 +1,13 @@
-//! Sheets to try, sound or damaged.
+//! Sheets to try, sound or damaged; the long ones are in `long`.
 
 use crate::calls::{random_judge, JudgeCall};
-use crate::definition::sheet::{field, line, write, LONGEST};
+use crate::definition::sheet::{field, line, write};
 use crate::definition::{Graph, KINDS};
 use crate::graphs;
 use crate::orderings;
 use crate::random::Random;
+
+pub mod long;
 
 pub type Sheet = Vec<u8>;
 
@@ -20,11 +22,6 @@ pub fn printed() -> Sheet {
 /// A small one with numbers of two digits.
 pub fn wider() -> Sheet {
     write(&[(0, 10), (1, 2), (2, 11), (9, 10)], &[10, 0, 9, 11], 12)
-}
-
-/// All links between 64 points, and a walk over all of them.
-pub fn longest() -> Sheet {
-    of(&all_linked(64), &(0..64).collect::<Vec<u8>>())
 }
 
 fn of(plan: &[u8], walk: &[u8]) -> Sheet {
@@ -164,39 +161,6 @@ pub fn longer(sheet: &[u8]) -> Vec<Sheet> {
     more.push(sheet.to_vec());
     more.push(vec![b' '; 40_960]);
     more.iter().map(|more| [sheet, more].concat()).collect()
-}
-
-/// The longest sheet, and others about its length.
-pub fn around_the_longest() -> Vec<Sheet> {
-    let longest = longest();
-    let mut sheets = longer(&longest);
-    sheets.push([longest.clone(), b" \n".repeat(20_480)].concat());
-    // More than a pipe holds.
-    sheets.push([longest.clone(), line(&[0]).repeat(40_000)].concat());
-    for at in [0, 11, 12, 20, 9_000, LONGEST - 6, LONGEST - 5, LONGEST - 2, LONGEST - 1] {
-        sheets.push(replaced(&longest, at, 1, b"x"));
-        sheets.push(replaced(&longest, at, 1, b""));
-        sheets.push(longest[..at].to_vec());
-    }
-    // Of line 1, and of the first and the last lines behind it.
-    let fields = fields(&longest);
-    let some = (0..6).chain(fields.len() - 66..fields.len() - 62).chain([fields.len() - 1]);
-    for (at, own) in some.map(|i| fields[i]) {
-        for number in [0, own + 1, own + 256, 65, 2015, 9999] {
-            sheets.push(replaced(&longest, at, 4, &field(number)));
-        }
-    }
-    // What line 1 says comes before the length.
-    for first in [[65, 2016, 64], [64, 2016, 65], [65, 2016, 66], [64, 2017, 64], [64, 9999, 64]] {
-        let mut sheet = replaced(&longest, 0, 13, &line(&first));
-        sheets.push(sheet.clone());
-        sheet.resize(LONGEST + 1, b'\n');
-        sheets.push(sheet.clone());
-        sheet.resize(LONGEST + 40_960, b'\n');
-        sheets.push(sheet);
-    }
-    sheets.push(longest);
-    sheets
 }
 
 // ---- Which refusal comes first ----

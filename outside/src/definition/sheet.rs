@@ -4,6 +4,8 @@
 //!   write links walk n          the sheet of a plan and a walk           [01: the sheet]
 //!   read bytes                  the plan and the walk, or a refusal      [01: checks]
 //!   judgement bytes             what the program judge-sheet prints
+//!   stopped_in bytes            the line in which a sheet that is refused with 11 stops having the form
+//!   note bytes                  what the program judge-sheet writes to standard error
 
 use std::collections::HashMap;
 use std::sync::LazyLock;
@@ -110,6 +112,44 @@ pub fn judgement(bytes: &[u8]) -> Vec<u8> {
         }
     };
     KINDS.into_iter().flat_map(judged).collect()
+}
+
+// ---- Where a sheet stops having the form ----
+
+/// The lines of all links between n points, ascending by pair.
+fn link_lines(n: usize) -> Vec<Vec<u8>> {
+    (0..n).flat_map(|u| (u + 1..n).map(move |v| line(&[u, v]))).collect()
+}
+
+/// How many lines at the front are right, for a sheet that is not refused with 2.
+///
+/// A right line has its only line end as its last byte, so the text can be cut at the line ends. The lines of the links
+/// are right as long as each is found in `link_lines`, after the one before it.
+fn right_lines(bytes: &[u8]) -> usize {
+    let mut lines = bytes.split_inclusive(|&byte| byte == 10);
+    let Some((first, _)) = lines.next().and_then(|line| split_line(line, 3)) else {
+        return 0;
+    };
+    let (n, m, k) = (first[0], first[1], first[2]);
+    let all = link_lines(n);
+    let mut later = all.iter();
+    let links = lines.by_ref().take(m).take_while(|line| later.any(|link| link == line)).count();
+    if links < m {
+        return 1 + links;
+    }
+    let places = lines.take(k).take_while(|line| split_line(line, 1).is_some()).count();
+    1 + m + places
+}
+
+/// The line, counted from 1, that follows the right ones at the front: it is wrong, or missing, or one too many.
+/// None where the sheet is not refused with 11.
+pub fn stopped_in(bytes: &[u8]) -> Option<usize> {
+    (read(bytes) == Err(11)).then(|| right_lines(bytes) + 1)
+}
+
+/// What is written to standard error for these bytes.
+pub fn note(bytes: &[u8]) -> Vec<u8> {
+    stopped_in(bytes).map_or(Vec::new(), |number| line(&[number]))
 }
 
 #[cfg(test)]

@@ -1,15 +1,17 @@
-//! Group f: what the program `judge_sheet` prints for sheets, sound and damaged, byte by byte.
+//! Group f: what the program `judge_sheet` writes for sheets, sound and damaged, to standard output and to standard
+//! error, byte by byte.
 
+use std::collections::BTreeMap;
 use std::io::{ErrorKind, Result, Write};
 use std::path::Path;
 use std::process::{exit, Command, Output, Stdio};
 use std::thread::sleep;
 use std::time::Duration;
 
-use outside::definition::sheet::{judgement, line, read};
+use outside::definition::sheet::{judgement, line, note, read, stopped_in};
 use outside::definition::{FAILED, KINDS};
 use outside::random::Random;
-use outside::sheets::{self, Sheet};
+use outside::sheets::{self, long, Sheet};
 
 use crate::comparison::Comparison;
 
@@ -22,16 +24,26 @@ const PRINTED: &str =
 /// Random sheets, each sound and damaged.
 const ROUNDS: usize = 400;
 const LARGE: usize = 30;
+/// How often the longest sheet is damaged.
+const LONG: usize = 100;
 
 /// Each answer must come this often, or the sheets try too little.
 const ENOUGH: u64 = 50;
+
+/// These lines must be named as often: all lines of the two small sheets that are damaged everywhere, and the line
+/// after each of the two.
+const NAMED: [usize; 10] = [1, 2, 3, 4, 5, 6, 7, 8, 9, 10];
 
 /// Long enough that the program sees the first part alone.
 const PAUSE: Duration = Duration::from_millis(2);
 
 /// Runs the program; each part but the first comes after a pause.
 fn run(parts: &[&[u8]]) -> Result<Output> {
-    let mut program = Command::new(PROGRAM).stdin(Stdio::piped()).stdout(Stdio::piped()).spawn()?;
+    let mut program = Command::new(PROGRAM)
+        .stdin(Stdio::piped())
+        .stdout(Stdio::piped())
+        .stderr(Stdio::piped())
+        .spawn()?;
     let mut input = program.stdin.take().expect("its input is a pipe");
     for (i, part) in parts.iter().enumerate() {
         if i > 0 {
@@ -57,28 +69,57 @@ fn answer(sheet: &[u8], judgement: &[u8]) -> u32 {
     }
 }
 
-fn compare_parts(comparison: &mut Comparison, parts: &[&[u8]]) {
-    let sheet = parts.concat();
-    let expected = judgement(&sheet);
-    comparison.count(answer(&sheet, &expected));
-    let output = run(parts).unwrap_or_else(|error| {
-        eprintln!("{PROGRAM}: {error}");
-        exit(1)
-    });
-    if output.stdout != expected || !output.status.success() {
-        let shown = format!("the sheet, {} bytes: \"{}\"", sheet.len(), sheet.escape_ascii());
-        let found = [
-            format!("expected          \"{}\"", expected.escape_ascii()),
-            format!("the program gives \"{}\"", output.stdout.escape_ascii()),
-            format!("and ends with {}", output.status),
-        ];
-        comparison.differ(&shown, &found);
-    }
+/// What goes to standard output and to standard error.
+fn show(printed: &[u8], noted: &[u8]) -> String {
+    format!("\"{}\", on standard error \"{}\"", printed.escape_ascii(), noted.escape_ascii())
 }
 
-fn compare_all(comparison: &mut Comparison, sheets: &[Sheet]) {
-    for sheet in sheets {
-        compare_parts(comparison, &[sheet]);
+/// The sheets that were compared, and how often each line was named.
+struct Judged {
+    comparison: Comparison,
+    named: BTreeMap<usize, u64>,
+}
+
+impl Judged {
+    fn compare_parts(&mut self, parts: &[&[u8]]) {
+        let sheet = parts.concat();
+        let (printed, noted) = (judgement(&sheet), note(&sheet));
+        self.comparison.count(answer(&sheet, &printed));
+        if let Some(line) = stopped_in(&sheet) {
+            *self.named.entry(line).or_default() += 1;
+        }
+        let output = run(parts).unwrap_or_else(|error| {
+            eprintln!("{PROGRAM}: {error}");
+            exit(1)
+        });
+        if output.stdout != printed || output.stderr != noted || !output.status.success() {
+            let shown = format!("the sheet, {} bytes: \"{}\"", sheet.len(), sheet.escape_ascii());
+            let found = [
+                format!("expected          {}", show(&printed, &noted)),
+                format!("the program gives {}", show(&output.stdout, &output.stderr)),
+                format!("and ends with {}", output.status),
+            ];
+            self.comparison.differ(&shown, &found);
+        }
+    }
+
+    fn compare_all(&mut self, sheets: &[Sheet]) {
+        for sheet in sheets {
+            self.compare_parts(&[sheet]);
+        }
+    }
+
+    /// Prints how many lines were named, and ends the program if one of `NAMED` was named too rarely.
+    fn coverage_of_lines(&self) {
+        for line in NAMED {
+            let times = self.named.get(&line).copied().unwrap_or(0);
+            if times < ENOUGH {
+                let found = format!("line {line} was named only {times} times");
+                self.comparison.differ(&"judge-sheet", &[found]);
+            }
+        }
+        let last = self.named.keys().last().expect("a line was named");
+        println!("   judge-sheet named {} different lines, from 1 to {last}", self.named.len());
     }
 }
 
@@ -88,62 +129,72 @@ pub fn compare() -> u64 {
         exit(1)
     }
     let mut random = Random::new(18_477);
-    let mut judged = Comparison::new("f, sheets judged");
+    let comparison = Comparison::new("f, sheets judged");
+    let mut judged = Judged { comparison, named: BTreeMap::new() };
     compare_printed(&mut judged);
     for sheet in [sheets::printed(), sheets::wider()] {
-        compare_parts(&mut judged, &[&sheet]);
-        compare_all(&mut judged, &sheets::each_byte_changed(&sheet));
-        compare_all(&mut judged, &sheets::each_byte_moved(&sheet));
-        compare_all(&mut judged, &sheets::each_start(&sheet));
-        compare_all(&mut judged, &sheets::each_number_changed(&sheet));
-        compare_all(&mut judged, &sheets::each_field_misshapen(&sheet));
-        compare_all(&mut judged, &sheets::each_line_damaged(&sheet));
-        compare_all(&mut judged, &sheets::longer(&sheet));
+        judged.compare_parts(&[&sheet]);
+        judged.compare_all(&sheets::each_byte_changed(&sheet));
+        judged.compare_all(&sheets::each_byte_moved(&sheet));
+        judged.compare_all(&sheets::each_start(&sheet));
+        judged.compare_all(&sheets::each_number_changed(&sheet));
+        judged.compare_all(&sheets::each_field_misshapen(&sheet));
+        judged.compare_all(&sheets::each_line_damaged(&sheet));
+        judged.compare_all(&sheets::longer(&sheet));
     }
-    compare_all(&mut judged, &sheets::around_the_longest());
-    compare_all(&mut judged, &sheets::several_faults());
-    compare_all(&mut judged, &sheets::of_each_size(&mut random));
+    judged.compare_all(&long::around_the_longest());
+    judged.compare_all(&long::filled_up());
+    judged.compare_all(&long::too_many_links());
+    judged.compare_all(&sheets::several_faults());
+    judged.compare_all(&sheets::of_each_size(&mut random));
     compare_random(&mut judged, &mut random);
     compare_slow(&mut judged);
-    let calls = judged.finish();
-    judged.coverage("judge-sheet", &[0, 2, 6, 8, 9, 11, FAILED], ENOUGH);
+    let calls = judged.comparison.finish();
+    judged.comparison.coverage("judge-sheet", &[0, 2, 6, 8, 9, 11, FAILED], ENOUGH);
+    judged.coverage_of_lines();
     calls
 }
 
 /// The definitions print for the sheet of 01 what 01 prints.
-fn compare_printed(comparison: &mut Comparison) {
+fn compare_printed(judged: &mut Judged) {
     let sheet = sheets::printed();
     let defined = judgement(&sheet);
     if defined != PRINTED.as_bytes() {
         let found = format!("the definitions give \"{}\"", defined.escape_ascii());
-        comparison.differ(&"the sheet of 01", &[found]);
+        judged.comparison.differ(&"the sheet of 01", &[found]);
     }
-    compare_parts(comparison, &[&sheet]);
+    judged.compare_parts(&[&sheet]);
 }
 
-fn compare_random(comparison: &mut Comparison, random: &mut Random) {
+fn compare_random(judged: &mut Judged, random: &mut Random) {
     for _ in 0..ROUNDS {
         let sheet = sheets::random_sheet(random);
         let damaged = sheets::damaged(random, &sheet);
-        compare_all(comparison, &[sheet, damaged]);
+        judged.compare_all(&[sheet, damaged]);
     }
     for _ in 0..LARGE {
-        compare_all(comparison, &[sheets::random_large(random)]);
+        let sheet = sheets::random_large(random);
+        let damaged = sheets::damaged(random, &sheet);
+        judged.compare_all(&[sheet, damaged]);
+    }
+    let longest = long::longest();
+    for _ in 0..LONG {
+        judged.compare_all(&[sheets::damaged(random, &longest)]);
     }
 }
 
 /// Sheets that come in parts: the small one cut at each byte, the longest in several.
-fn compare_slow(comparison: &mut Comparison) {
+fn compare_slow(judged: &mut Judged) {
     let sheet = sheets::printed();
     for at in 1..sheet.len() {
-        compare_parts(comparison, &[&sheet[..at], &sheet[at..]]);
+        judged.compare_parts(&[&sheet[..at], &sheet[at..]]);
     }
     for size in [500, 4_096, 18_476, 18_477] {
-        let long = sheets::longest();
-        let parts: Vec<&[u8]> = long.chunks(size).collect();
-        compare_parts(comparison, &parts);
-        let longer = [long, vec![b'\n'; 3]].concat();
+        let longest = long::longest();
+        let parts: Vec<&[u8]> = longest.chunks(size).collect();
+        judged.compare_parts(&parts);
+        let longer = [longest, vec![b'\n'; 3]].concat();
         let parts: Vec<&[u8]> = longer.chunks(size).collect();
-        compare_parts(comparison, &parts);
+        judged.compare_parts(&parts);
     }
 }

@@ -126,3 +126,98 @@ fn the_longest_sheet_has_all_links_and_all_points() {
     assert_eq!(sheet.len(), LONGEST);
     assert!(read(&sheet).is_ok());
 }
+
+// ---- Where a sheet stops having the form ----
+
+/// The line in which the printed sheet stops having the form, once `new` is there for `old`.
+fn stopped(old: &str, new: &str) -> Option<usize> {
+    assert_eq!(PRINTED.matches(old).count(), 1, "{old:?} is there once");
+    stopped_in(PRINTED.replace(old, new).as_bytes())
+}
+
+#[test]
+fn a_sheet_stops_in_a_wrong_line_1() {
+    assert_eq!(stopped("   4   3   4\n", "   4   3   x\n"), Some(1));
+    assert_eq!(stopped("   4   3   4\n", "   4  03   4\n"), Some(1));
+    assert_eq!(stopped("   4   3   4\n", "   4   3\n"), Some(1));
+    assert_eq!(stopped("   4   3   4\n", "   4   3   4   4\n"), Some(1));
+    assert_eq!(stopped("   4   3   4\n", "   4   3   4"), Some(1));
+    assert_eq!(stopped("   4   3   4\n", "  65   3   x\n"), Some(1));
+}
+
+#[test]
+fn a_sheet_stops_in_a_wrong_link() {
+    assert_eq!(stopped("   0   1\n   0   2\n", "   0   2\n   0   1\n"), Some(3), "out of order");
+    assert_eq!(stopped("   0   2\n", "   0   1\n"), Some(3), "repeated");
+    assert_eq!(stopped("   1   3\n", "   0   1\n"), Some(4), "before the first");
+    assert_eq!(stopped("   1   3\n", "   1   4\n"), Some(4), "a point of n");
+    assert_eq!(stopped("   1   3\n", "   4   5\n"), Some(4), "two points above n");
+    assert_eq!(stopped("   1   3\n", "   1 259\n"), Some(4), "a point of 256 and more");
+    assert_eq!(stopped("   0   1\n", "   1   0\n"), Some(2), "the larger first");
+    assert_eq!(stopped("   0   1\n", "   0   0\n"), Some(2), "to itself");
+    assert_eq!(stopped("   0   2\n", "   0   2 \n"), Some(3), "a space too many");
+    assert_eq!(stopped("   0   2\n", "   0  02\n"), Some(3), "a leading zero");
+    assert_eq!(stopped("   0   2\n", ""), Some(4), "one link too few: a place in its line");
+    assert_eq!(stopped("   4   3   4\n", "   4   2   4\n"), Some(4), "one link too many");
+}
+
+#[test]
+fn a_sheet_stops_in_a_wrong_place() {
+    assert_eq!(stopped("\n   1\n", "\n   a\n"), Some(6));
+    assert_eq!(stopped("\n   1\n", "\n\n"), Some(6));
+    assert_eq!(stopped("\n   1\n", "\n   1\r\n"), Some(6));
+    assert_eq!(stopped("\n   2\n   3\n", "\n   2   3\n"), Some(7));
+    assert_eq!(stopped("\n   2\n   3\n", "\n   2\n  03\n"), Some(8));
+}
+
+#[test]
+fn a_sheet_that_ends_early_stops_in_the_missing_line() {
+    for end in 0..PRINTED.len() {
+        let line_ends = PRINTED[..end].matches('\n').count();
+        assert_eq!(stopped_in(&PRINTED.as_bytes()[..end]), Some(line_ends + 1), "{end} bytes");
+    }
+    assert_eq!(stopped_in(b""), Some(1));
+    assert_eq!(stopped_in(b"  64   0   1\n"), Some(2));
+    assert_eq!(stopped_in(b"   2   2   0\n   0   1\n"), Some(3));
+}
+
+#[test]
+fn a_sheet_that_goes_on_stops_after_its_last_line() {
+    for more in [" ", "0", "\n", "\0", "   0\n", "   0\n   1\n", PRINTED] {
+        assert_eq!(stopped_in(format!("{PRINTED}{more}").as_bytes()), Some(9), "{more:?}");
+        assert_eq!(stopped_in(format!("   0   0   0\n{more}").as_bytes()), Some(2), "{more:?}");
+    }
+}
+
+#[test]
+fn no_line_is_named_with_another_answer() {
+    assert_eq!(stopped_in(PRINTED.as_bytes()), None);
+    assert_eq!(stopped("   4   3   4\n", "  65   3   4\n"), None, "refusal 2");
+    assert_eq!(stopped("   4   3   4\n", "   4   3   5\n"), None, "refusal 6");
+    assert_eq!(stopped("\n   2\n   3\n", "\n   2\n   4\n"), None, "refusal 8");
+    assert_eq!(stopped("\n   2\n   3\n", "\n   2\n   2\n"), None, "refusal 9");
+}
+
+#[test]
+fn all_lines_of_a_sheet_that_has_the_form_are_right() {
+    assert_eq!(right_lines(PRINTED.as_bytes()), 8);
+    for (links, walk, n) in [(&[][..], &[][..], 0), (&[(0, 1)], &[1, 1, 9999], 3)] {
+        assert_eq!(right_lines(&write(links, walk, n)), 1 + links.len() + walk.len());
+    }
+    let links: Vec<(usize, usize)> =
+        (0..64).flat_map(|u| (u + 1..64).map(move |v| (u, v))).collect();
+    let sheet = write(&links, &[0; 64], 64);
+    assert_eq!(right_lines(&sheet), 2081);
+    assert_eq!(stopped_in(&[&sheet[..], b"x"].concat()), Some(2082));
+}
+
+#[test]
+fn the_line_is_noted_as_one_field() {
+    let noted = |sheet: &str| String::from_utf8(note(sheet.as_bytes())).expect("a field");
+    assert_eq!(noted(""), "   1\n");
+    assert_eq!(noted(&format!("{PRINTED}\n")), "   9\n");
+    assert_eq!(noted(PRINTED), "");
+    assert_eq!(noted("  65   0   0\n"), "");
+    let broken = concat!(env!("CARGO_MANIFEST_DIR"), "/../examples/broken.sheet");
+    assert_eq!(note(&std::fs::read(broken).expect("the example is there")), b"   3\n");
+}
