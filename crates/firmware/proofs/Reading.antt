@@ -15,7 +15,7 @@ use lib.Arith.{digits-lt}
 use lib.Dec.{lit<}
 use lib.ListN.{length, take, set, length-append, length-take, length-set}
 use lib.Seq.{take-suc-set}
-use Rattle.firmware.specs.Plan.{byteAt, wordAt, rowAt, rowsBelow, rowsOf}
+use Rattle.firmware.specs.Plan.{byteAt, wordAt, rowAt, rowsBelow, planRows}
 
 pub word-lower : (m : ℕ) (plan : List ℕ) (i : ℕ) → wordAt (suc m) plan i ≡ wordAt m plan (suc i) * 256 + byteAt plan i
 unfolding wordAt
@@ -77,8 +77,8 @@ module _ (plan : List ℕ) where
     decoded = rw (add-one, take-suc-set rows u row (omega (arith, d .room)), d .decoded, e);
   }
 
-  pub decoding-end : {rows : List ℕ} {u : ℕ} → Decoding plan rows u → length plan / 8 ≤ u → take (length plan / 8) rows ≡ rowsOf plan
-  unfolding rowsOf
+  pub decoding-end : {rows : List ℕ} {u : ℕ} → Decoding plan rows u → length plan / 8 ≤ u → take (length plan / 8) rows ≡ planRows plan
+  unfolding planRows
   decoding-end {rows} {u} d l = let all : length plan / 8 ≡ u = omega (arith, d .upto) in rw (all, d .decoded)
 
 -- ---- the rows as a list
@@ -88,12 +88,12 @@ unfolding rowsBelow
 below-count plan zero = refl
 below-count plan (suc n) = rw (length-append, below-count plan n) (omega arith)
 
-pub rows-count : (plan : List ℕ) → length (rowsOf plan) ≡ length plan / 8
-unfolding rowsOf
+pub rows-count : (plan : List ℕ) → length (planRows plan) ≡ length plan / 8
+unfolding planRows
 rows-count plan = below-count plan (length plan / 8)
 
 -- the part of the array that is lent on
-module _ (plan rows : List ℕ) (decoded : take (length plan / 8) rows ≡ rowsOf plan) where
+module _ (plan rows : List ℕ) (decoded : take (length plan / 8) rows ≡ planRows plan) where
   pub part-length : length plan / 8 ≡ length (take (length plan / 8) rows)
   part-length = sym (ap length decoded ∙ rows-count plan)
 

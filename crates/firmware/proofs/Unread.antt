@@ -18,7 +18,7 @@ use Rattle.searches.specs.Violation.{Verdict, refused}
 use Rattle.searches.specs.Answer.{openTests, judgeTests, listTests, carryOnTests, firstRefusal, Refuses, judgeAnswer, carryOnAnswer, carryOnOutput}
 use Rattle.searches.proofs.Refusals.{refuses-first, first-refuses, accepts-none, none-accepts}
 use Rattle.searches.proofs.Answers.{judge-refused, carryOn-kept}
-use Rattle.firmware.specs.Plan.{rowsOf}
+use Rattle.firmware.specs.Plan.{planRows}
 use Rattle.firmware.proofs.Reading.{rows-count}
 use Rattle.firmware.specs.Code.{codeOf, numberOf, planTests, readTests, judgeCode, carryOnCode, carryOnLeaves}
 
@@ -34,7 +34,7 @@ module _ (kind : ℕ) (plan : List ℕ) where
   record TooMany : Type 0 where
     pub known : T (ltb 5 kind) → ⊥
     pub asked : firstRefusal (planTests kind plan) ≡ none
-    pub many : T (ltb 64 (length (rowsOf plan)))
+    pub many : T (ltb 64 (length (planRows plan)))
 
   Unread : ℕ → Type 0
   Unread q = (firstRefusal (planTests kind plan) ≡ some q) ⊎ ((q ≡ 2) × TooMany)
@@ -49,13 +49,13 @@ module _ (kind : ℕ) (plan : List ℕ) where
       go (inr (known, inr (whole, inl x))) =
           let more : 512 < length plan = ltb→lt 512 (length plan) (x .1) in
           let eighth : length plan % 8 ≡ 0 = left-over (length plan) whole in
-          let many : 64 < length (rowsOf plan) = omega (arith, rows-count plan) in
+          let many : 64 < length (planRows plan) = omega (arith, rows-count plan) in
           inr (
             sym (x .0),
             record {
               known = known;
               asked = accepts-none (planTests kind plan) (known, (whole, tt));
-              many = lt→ltb 64 (length (rowsOf plan)) many;
+              many = lt→ltb 64 (length (planRows plan)) many;
             },
           )
       go (inr (known, inr (whole, inr x))) = absurd (x .1)
@@ -81,10 +81,10 @@ module _ (kind : ℕ) (plan : List ℕ) where
         go : Unread q → q ≡ judgeCode kind plan walk
         go (inl first) = rw (first, judgeCode)
         go (inr (two, x)) =
-            let answer : judgeAnswer kind (rowsOf plan) walk ≡ refused 2 = judge-refused kind (rowsOf plan) walk 2 (inr (x .known, inl (refl, x .many))) in
+            let answer : judgeAnswer kind (planRows plan) walk ≡ refused 2 = judge-refused kind (planRows plan) walk 2 (inr (x .known, inl (refl, x .many))) in
             rw (x .asked, judgeCode, answer, two)
 
-    pub judge-read : none ≡ firstRefusal (readTests kind plan) → {rows : List ℕ} {verdict : Verdict} {r : ℕ} → rows ≡ rowsOf plan
+    pub judge-read : none ≡ firstRefusal (readTests kind plan) → {rows : List ℕ} {verdict : Verdict} {r : ℕ} → rows ≡ planRows plan
         → verdict ≡ judgeAnswer kind rows walk → r ≡ codeOf verdict → r ≡ judgeCode kind plan walk
     unfolding judgeCode
     judge-read e same judged code = rw (code, judged, same, read e .asked, judgeCode)
@@ -98,11 +98,11 @@ module _ (kind : ℕ) (plan : List ℕ) where
         go : Unread q → (q ≡ carryOnCode kind plan preference output k) × (output ≡ carryOnLeaves kind plan preference output k)
         go (inl first) = (rw (first, carryOnCode), rw (first, carryOnLeaves))
         go (inr (two, x)) =
-            let refuses : Refuses 2 (carryOnTests kind (rowsOf plan) preference output k) = inr (x .known, inl (refl, x .many)) in
-            let answer : carryOnAnswer kind (rowsOf plan) preference output k ≡ some 2 = refuses-first (carryOnTests kind (rowsOf plan) preference output k) 2 refuses in
-            (rw (x .asked, carryOnCode, answer, two), rw (x .asked, carryOnLeaves, carryOn-kept kind (rowsOf plan) preference output k 2 refuses))
+            let refuses : Refuses 2 (carryOnTests kind (planRows plan) preference output k) = inr (x .known, inl (refl, x .many)) in
+            let answer : carryOnAnswer kind (planRows plan) preference output k ≡ some 2 = refuses-first (carryOnTests kind (planRows plan) preference output k) 2 refuses in
+            (rw (x .asked, carryOnCode, answer, two), rw (x .asked, carryOnLeaves, carryOn-kept kind (planRows plan) preference output k 2 refuses))
 
-    pub carryOn-read : none ≡ firstRefusal (readTests kind plan) → {rows left : List ℕ} {answer : Option ℕ} {r : ℕ} → rows ≡ rowsOf plan
+    pub carryOn-read : none ≡ firstRefusal (readTests kind plan) → {rows left : List ℕ} {answer : Option ℕ} {r : ℕ} → rows ≡ planRows plan
         → answer ≡ carryOnAnswer kind rows preference output k → left ≡ carryOnOutput kind rows preference output k → r ≡ numberOf answer
         → (r ≡ carryOnCode kind plan preference output k) × (left ≡ carryOnLeaves kind plan preference output k)
     unfolding carryOnCode carryOnLeaves

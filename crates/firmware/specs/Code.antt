@@ -15,7 +15,7 @@ use lib.Dec.{ltb, eqb}
 use lib.ListN.{length}
 use Rattle.searches.specs.Violation.{Verdict, passes, fails, refused}
 use Rattle.searches.specs.Answer.{firstRefusal, judgeAnswer, carryOnAnswer, carryOnOutput}
-use Rattle.firmware.specs.Plan.{rowsOf}
+use Rattle.firmware.specs.Plan.{planRows}
 
 unfoldable pub codeOf : Verdict → ℕ
 codeOf passes = 0
@@ -35,7 +35,7 @@ readTests kind plan = planTests kind plan ++ (2, ltb 512 (length plan)) ∷ []
 unfoldable pub judgeCode : ℕ → List ℕ → List ℕ → ℕ
 judgeCode kind plan walk =
     elim (firstRefusal (planTests kind plan)) [
-      | none ↦ codeOf (judgeAnswer kind (rowsOf plan) walk)
+      | none ↦ codeOf (judgeAnswer kind (planRows plan) walk)
       | some r ↦ r
     ]
 
@@ -43,13 +43,13 @@ module _ (kind : ℕ) (plan preference output : List ℕ) (k : ℕ) where
   unfoldable pub carryOnCode : ℕ
   carryOnCode =
       elim (firstRefusal (planTests kind plan)) [
-        | none ↦ numberOf (carryOnAnswer kind (rowsOf plan) preference output k)
+        | none ↦ numberOf (carryOnAnswer kind (planRows plan) preference output k)
         | some r ↦ r
       ]
 
   unfoldable pub carryOnLeaves : List ℕ
   carryOnLeaves =
       elim (firstRefusal (planTests kind plan)) [
-        | none ↦ carryOnOutput kind (rowsOf plan) preference output k
+        | none ↦ carryOnOutput kind (planRows plan) preference output k
         | some r ↦ output
       ]

@@ -3,7 +3,7 @@
 --   wordAt m plan i        the m bytes from i on as one number, lowest first: the byte b places on counts 256 ^ b
 --   rowAt plan u           the u-th row: eight bytes from 8 u on                                 [01: eight bytes a row, lowest first]
 --   rowsBelow plan n       the first n rows
---   rowsOf plan            the rows that the plan's bytes hold
+--   planRows plan            the rows that the plan's bytes hold
 use Prim.Native.Nat.{ℕ, zero, suc, _+_, _*_, _/_, _^_}
 use mathlib.Core.List.{List, [], _∷_, _++_}
 use lib.ListN.{length, getD}
@@ -22,5 +22,5 @@ unfoldable pub rowsBelow : List ℕ → ℕ → List ℕ
 rowsBelow plan zero = []
 rowsBelow plan (suc n) = rowsBelow plan n ++ rowAt plan n ∷ []
 
-unfoldable pub rowsOf : List ℕ → List ℕ
-rowsOf plan = rowsBelow plan (length plan / 8)
+unfoldable pub planRows : List ℕ → List ℕ
+planRows plan = rowsBelow plan (length plan / 8)

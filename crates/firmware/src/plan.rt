@@ -6,7 +6,7 @@ ghost use mathlib.Core.Path.{_≡_};
 ghost use Prim.Native.Nat.{_+_, _*_, _/_, _≤_};
 ghost use lib.ListN.{length, take};
 ghost use Rattle.searches.specs.Answer.{firstRefusal, refusalOf};
-ghost use Rattle.firmware.specs.Plan.{rowAt, rowsOf};
+ghost use Rattle.firmware.specs.Plan.{rowAt, planRows};
 ghost use Rattle.firmware.specs.Code.{readTests};
 
 // What is refused without reading the rows: a kind that names no search, bytes that are no whole rows, more than 64 rows.
@@ -42,7 +42,7 @@ fn row_at(plan: &[u8], u: usize) -> u64
 // Writes the rows of a plan of at most 64 of them, from the front of `rows` on.
 pub fn decode(plan: &[u8], rows: &mut [u64; 64])
     requires { ⌜ (length (now plan) ≤ 512) × (length (now rows) ≡ 64) ⌝ }
-    ensures { λ r. ⌜ take (length (now (plan .entry)) / 8) (now (rows .exit)) ≡ rowsOf (now (plan .entry)) ⌝ }
+    ensures { λ r. ⌜ take (length (now (plan .entry)) / 8) (now (rows .exit)) ≡ planRows (now (plan .entry)) ⌝ }
 {
     for u in 0..plan.len() / 8 {
         rows[u] = row_at(plan, u);
