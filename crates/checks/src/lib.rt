@@ -1,4 +1,4 @@
-// What is refused: tests on lent lists, in their order, each on every row or entry before the following one.
+// What is refused: tests on lists that the caller owns, in their order, each on every row or entry before the following one.
 // No function here alters a list.
 pub mod number;
 

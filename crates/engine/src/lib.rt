@@ -1,4 +1,4 @@
-// Judge and carry-on on lent lists, for every kind, plan, list and number that can be handed in.
+// Judge and carry-on on lists that the caller owns, for every kind, plan, list and number there can be.
 pub mod after;
 
 use searches::Judgement;

@@ -30,7 +30,7 @@ fn champion(kind: Kind, labels: &[u64; 64], free: u64, reached: u64) -> Vertex
     Vertex(leader)
 }
 
-// Whether `v` is offered. `best` is a champion: it is offered itself, and except in MNS so is whoever it is not ahead of.
+// Whether `v` is offered. `best` is a champion: it is offered itself, and except in MNS so is every vertex that it is not ahead of.
 fn is_open(kind: Kind, labels: &[u64; 64], free: u64, reached: u64, best: Vertex, v: Vertex) -> bool
     requires { ⌜ Champion (searchOf (kind .0)) (now labels) free (best .0) × Covers reached (now labels) ⌝ }
     ensures { λ r. ⌜ r ≡ openIn (searchOf (kind .0)) (now (labels .entry)) free (v .0) ⌝ }
