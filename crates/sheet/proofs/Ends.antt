@@ -97,15 +97,21 @@ module _ (b : List ℕ) where
   -- ---- what the code has at the end
 
   pub record Agrees (p : Parsed) : Type 0 where
+    -- no line has the form exactly when line 1 has not
     pub head : eqb (p .good) 0 ≡ not (headed b)
+    -- n and k are those of line 1
     pub points : T (headed b) → p .content .n ≡ pointsOf b
     pub places : T (headed b) → p .content .k ≡ placesOf b
+    -- a sound sheet has a line 1 that is not too large, and where it has one, it is sound exactly when it has the form
     pub sound : T (p .sound) → T (headed b) × (large ≡ false)
     pub form : T (headed b) → large ≡ false → p .sound ≡ formed b
+    -- where it is refused with 11, the next line is the one in which it stops having the form
     pub line : (T (headed b) → (large ≡ false) × (T (formed b) → ⊥)) → suc (p .good) ≡ stopsIn b
+    -- what it holds, where it has the form
     pub outside : T (headed b) → large ≡ false → T (formed b) → p .content .outside ≡ anyBelow (placesOf b) (beyond (pointsOf b) b)
     pub rows : T (headed b) → large ≡ false → T (formed b) → p .content .rows ≡ joinedRows b (linksOf b)
     pub ordering : T (headed b) → large ≡ false → T (formed b) → p .content .ordering ≡ placedBytes b (placesOf b)
+    -- what the decision needs in any case
     pub room : length (p .content .ordering) ≡ 64
     pub few : p .good < 30000
 
