@@ -15,8 +15,8 @@
  * Lengths are in bytes, and each pointer must lead to as many bytes as its
  * length says. No pointer may be NULL, not even that of an empty list: pass any
  * non-null pointer there, nothing is read through it. The output list must not
- * overlap another list of the same call. Apart from that any values may be
- * passed: what is not as described above is refused with a number.
+ * overlap another list of the same call. Apart from that, any values may be
+ * passed; anything that is not as described above is refused, with a number.
  *
  * Kind
  *
@@ -82,7 +82,7 @@ extern "C" {
  * after b or not placed at all, a is linked to c and not to b, and no point d
  * excuses b. An excuse d is linked to b and placed before b, and
  *
- *   Generic  nothing more is asked of it
+ *   Generic  no further condition
  *   BFS      it is placed before a
  *   DFS      it is placed after a
  *   LexBFS   it is placed before a and not linked to c
@@ -90,8 +90,8 @@ extern "C" {
  *   MNS      it is not linked to c
  *
  * The first triple has the earliest placed b, then the earliest placed a, then
- * the first c: placed points come first, by place, then the unplaced ones, by
- * number. So c may be a point that is not in the walk.
+ * the first c: placed points come first, in the order of the walk, then the
+ * unplaced ones, by number. So c may be a point that is not in the walk.
  */
 #define VEZHANIP_FAILED          16777216u
 #define VEZHANIP_HAS_FAILED(code) ((code) >= VEZHANIP_FAILED)
@@ -110,7 +110,7 @@ uint32_t vezhanip_judge(uint8_t kind,
 /*
  * Carries a walk on until all n points are placed. The first k bytes of the
  * output are the walk so far. At each step, of the points that the search
- * offers, the one that stands last in the preference list is placed.
+ * offers, the one that comes last in the preference list is placed.
  *
  * Returns VEZHANIP_OK, or the first refusal that applies, in the order 1, 2, 3,
  * 4, 5, 6, 10, 7, 8, 9, 12. Reads the plan, the preference list and output[0]
