@@ -19,13 +19,14 @@ use lib.Seq.{length-take-le, getD-take}
 use Rattle.bitset.specs.Below.{anyBelow, allBelow}
 use Rattle.bitset.specs.Word.{member}
 use Rattle.bitset.proofs.Tests.{and-in, and-out, not-not}
-use Rattle.bitset.proofs.Below.{any-out, any-same, all-out, all-in}
+use Rattle.bitset.proofs.Below.{any-out, any-same, all-in}
 use Rattle.searches.specs.Ordering.{arcs, at, IsOrdering}
 use Rattle.searches.specs.Answer.{openTests, Accepts}
 use Rattle.searches.proofs.Refusals.{accepts-none, none-accepts, bitOutside-out, selfLoop-out, oneWay-out}
 use Rattle.searches.proofs.Answers.{clear, all-inside, none-repeated}
 use Rattle.sheet.specs.Sheet.{pointsOf, linksOf, placesOf, headed, linkStart, fromOf, toOf, beforeFrom, beforeTo, isBelow, linkFitsAt, linkFits, joinedRows}
 use Rattle.sheet.specs.Sheet.{placeStart, placeAt, placeFits, formed, walkOf, rowsOf, sheetTests, readAnswer}
+use Rattle.sheet.proofs.Form.{head-out, formed-out}
 use Rattle.sheet.proofs.Sheets.{tabulate-length, tabulate-at}
 use Rattle.sheet.proofs.Standing.{equal-test}
 use Rattle.sheet.proofs.Joined.{joins, joins-back, joins-out, rows-length, rows-words, Small, member-rows}
@@ -79,14 +80,6 @@ pub record Accepted (b : List ℕ) : Type 0 where
   pub walk : IsOrdering (pointsOf b) (walkOf b) (placesOf b)
 
 module _ (b : List ℕ) where
-  -- line 1
-  head-out : T (headed b) → (linksOf b < 10000) × (at b 12 ≡ 10)
-  unfolding headed
-  head-out t =
-      let three = and-out ((ltb (pointsOf b) 10000 && ltb (linksOf b) 10000) && ltb (placesOf b) 10000) (eqb (at b 12) 10) t in
-      let two = and-out (ltb (pointsOf b) 10000 && ltb (linksOf b) 10000) (ltb (placesOf b) 10000) (three .0) in
-      (ltb→lt (linksOf b) 10000 (and-out (ltb (pointsOf b) 10000) (ltb (linksOf b) 10000) (two .0) .1), eqb→eq (at b 12) 10 (three .1))
-
   head-in : Accepted b → T (headed b)
   unfolding headed
   head-in x =
@@ -108,20 +101,18 @@ module _ (b : List ℕ) where
   unfolding readAnswer sheetTests formed placeFits walkOf
   accepted-out e =
       let tests = none-accepts (sheetTests b) e in
-      let head = head-out (not-not (headed b) (not-T (not (headed b)) (tests .0))) in
+      let head = head-out b (not-not (headed b) (not-T (not (headed b)) (tests .0))) in
       let form = not-not (formed b) (not-T (not (formed b)) (tests .1 .1 .1 .0)) in
-      let lines = allBelow (linksOf b) (linkFits b) && allBelow (placesOf b) (placeFits b) in
-      let whole = and-out lines (eqb (length b) (placeStart b (placesOf b))) form in
-      let both = and-out (allBelow (linksOf b) (linkFits b)) (allBelow (placesOf b) (placeFits b)) (whole .0) in
+      let lines = formed-out b form in
       let long : length (walkOf b) ≡ placesOf b = tabulate-length (placeAt b) (placesOf b) in
       record {
         points = nltb→le 64 (pointsOf b) (not-T (ltb 64 (pointsOf b)) (tests .1 .0));
         links = head .0;
         places = nltb→le (pointsOf b) (placesOf b) (not-T (ltb (pointsOf b) (placesOf b)) (tests .1 .1 .0));
         ended = head .1;
-        link-lines = λ j l. line-out b j (all-out (linksOf b) (linkFits b) (both .0) j l);
-        place-lines = λ j l. eqb→eq (at b (placeStart b j + 4)) 10 (and-out (ltb (placeAt b j) 10000) (eqb (at b (placeStart b j + 4)) 10) (all-out (placesOf b) (placeFits b) (both .1) j l) .1);
-        long = eqb→eq (length b) (placeStart b (placesOf b)) (whole .1);
+        link-lines = λ j l. line-out b j (lines .0 j l);
+        place-lines = λ j l. eqb→eq (at b (placeStart b j + 4)) 10 (and-out (ltb (placeAt b j) 10000) (eqb (at b (placeStart b j + 4)) 10) (lines .1 j l) .1);
+        long = lines .2;
         walk = clear (pointsOf b) (walkOf b) (placesOf b) (omega arith) (tests .1 .1 .1 .1 .0) (tests .1 .1 .1 .1 .1 .0);
       }
 

@@ -14,7 +14,7 @@ use mathlib.Core.Logic.{_⊎_, inl, inr}
 use mathlib.Core.List.{List}
 use mathlib.Core.Option.{Option, none, some}
 use native.Mathlib.Omega.{arith}
-use lib.Dec.{T, ltb, eqb, ltb→lt, lt→ltb, nltb→le, eqb→eq, not-T}
+use lib.Dec.{T, ltb, eqb, nltb→le, eqb→eq, not-T}
 use lib.ListN.{length, take}
 use lib.Seq.{length-take-le, getD-take, take-all}
 use Rattle.bitset.specs.Below.{firstBelow}
@@ -28,6 +28,7 @@ use Rattle.sheet.specs.Sheet.{pointsOf, linksOf, placesOf, headed, linkS
 use Rattle.sheet.specs.Sheet.{placeStart, placeAt, placeFits, formed, sheetTests, readAnswer, lineFits, stopsIn, stoppedWith, stoppedIn}
 use Rattle.sheet.specs.Lines.{heldUnless, heldIn}
 use Rattle.sheet.specs.Written.{longest}
+use Rattle.sheet.proofs.Form.{line-link, line-place}
 use Rattle.sheet.proofs.Sheets.{refused-late}
 use Rattle.sheet.proofs.Accepted.{line-out}
 use Rattle.sheet.proofs.Longest.{links-most, longest-sheet, formed-short}
@@ -48,17 +49,6 @@ longer-answer b l =
     (λ short. cond-yes (not (formed b)) (some 11) _
     (not-T (formed b)
     (λ t. let fits = formed-short b (nltb→le 64 n (not-T (ltb 64 n) few)) (nltb→le n k (not-T (ltb n k) short)) t in absurd (omega arith))))))
-
--- ---- the lines by their place on the sheet
-
-module _ (b : List ℕ) (j : ℕ) where
-  line-link : j < linksOf b → lineFits b (suc j) ≡ linkFits b j
-  unfolding lineFits
-  line-link l = cond-yes (ltb j (linksOf b)) (linkFits b j) (placeFits b (j - linksOf b)) (lt→ltb j (linksOf b) l)
-
-  line-place : linksOf b ≤ j → lineFits b (suc j) ≡ placeFits b (j - linksOf b)
-  unfolding lineFits
-  line-place l = cond-no (ltb j (linksOf b)) (linkFits b j) (placeFits b (j - linksOf b)) (λ t. let h = ltb→lt j (linksOf b) t in omega arith)
 
 -- ---- two sheets that begin alike
 

@@ -10,29 +10,19 @@ use mathlib.Core.Logic.{_⊎_, inl, inr}
 use mathlib.Core.List.{List}
 use native.Mathlib.Omega.{arith}
 use borrow.Author.Tests.{ne-eqb}
-use lib.Dec.{T, ltb, eqb, ltb→lt, lt→ltb, nltb→le, not-T, T-not}
+use lib.Dec.{T, ltb, eqb, T-not}
 use lib.ListN.{length, length-replicate}
-use Rattle.bitset.specs.Below.{anyBelow, allBelow, firstBelow}
-use Rattle.bitset.proofs.Tests.{and-out, or-inl, or-inr, not-not, is-true, is-false, decided, below-or, cond-yes, cond-no}
-use Rattle.bitset.proofs.Below.{first, first-unique, all-out, all-in}
+use Rattle.bitset.specs.Below.{anyBelow, allBelow}
+use Rattle.bitset.proofs.Tests.{is-true, is-false, decided, below-or, cond-yes, cond-no}
+use Rattle.bitset.proofs.Below.{all-in}
 use Rattle.sheet.specs.Sheet.{pointsOf, linksOf, placesOf, headed, linkFits, placeStart, placeFits, formed, lineFits, stopsIn, joinedRows}
 use Rattle.sheet.specs.Lines.{beyond, placedBytes}
 use Rattle.sheet.specs.Parsing.{blank, halted, begun, headRead, endRead, nextLine, step, steps, parsedOf}
 use Rattle.sheet.specs.declared.lines.Parsed.{Parsed}
-use Rattle.sheet.proofs.Sheets.{bytes-length, headed-links}
+use Rattle.sheet.proofs.Form.{first-out, fits-before, out-there, not-large, head-out, formed-out, line-link, line-place}
+use Rattle.sheet.proofs.Sheets.{bytes-length}
+use Rattle.sheet.proofs.Stopping.{stops-at}
 use Rattle.sheet.proofs.Parsing.{linksSo, placesSo, link-malformed, place-malformed, none-malformed}
-
--- ---- the first number at which a test fails
-
-module _ (n : ℕ) (f : ℕ → Bool) where
-  abbrev first-out : ℕ
-  first-out = firstBelow n (λ i. not (f i))
-
-  fits-before : (i : ℕ) → i < first-out → T (f i)
-  fits-before i l = not-not (f i) (not-T (not (f i)) (first n (λ i. not (f i)) .least i l))
-
-  out-there : first-out < n → T (f first-out) → ⊥
-  out-there l t = T-not (f first-out) (first n (λ i. not (f i)) .holds l) t
 
 -- ---- line 1
 
@@ -62,21 +52,10 @@ module _ (b : List ℕ) where
 
   -- ---- the first line that is malformed
 
-  line-link : (j : ℕ) → j < linksOf b → lineFits b (suc j) ≡ linkFits b j
-  unfolding lineFits
-  line-link j l = cond-yes (ltb j (linksOf b)) (linkFits b j) (placeFits b (j - linksOf b)) (lt→ltb j (linksOf b) l)
-
-  line-place : (j : ℕ) → lineFits b (suc (linksOf b + j)) ≡ placeFits b j
-  unfolding lineFits
-  line-place j =
-      let m = linksOf b in
-      let same : m + j - m ≡ j = omega arith in
-      cond-no (ltb (m + j) m) (linkFits b (m + j)) (placeFits b (m + j - m)) (λ t. omega (arith, ltb→lt (m + j) m t)) ∙ ap (λ (i : ℕ). placeFits b i) same
-
   lines-linked : T (headed b) → (j : ℕ) → j ≤ linksOf b → ((i : ℕ) → i < j → T (linkFits b i)) → (l : ℕ) → l < suc j → T (lineFits b l)
   unfolding lineFits
   lines-linked head j few fit zero h = head
-  lines-linked head j few fit (suc i) h = subst (λ (x : Bool). T x) (sym (line-link i (omega arith))) (fit i (omega arith))
+  lines-linked head j few fit (suc i) h = subst (λ (x : Bool). T x) (sym (line-link b i (omega arith))) (fit i (omega arith))
 
   lines-placed : T (headed b) → ((i : ℕ) → i < linksOf b → T (linkFits b i)) → (j : ℕ) → ((i : ℕ) → i < j → T (placeFits b i)) → (l : ℕ) → l < suc (linksOf b + j) → T (lineFits b l)
   lines-placed head linked j fit l h = go (below-or l (suc (linksOf b)))
@@ -84,15 +63,9 @@ module _ (b : List ℕ) where
       go : (l < suc (linksOf b)) ⊎ (suc (linksOf b) ≤ l) → T (lineFits b l)
       go (inl low) = lines-linked head (linksOf b) (omega arith) linked l low
       go (inr high) =
-          let i = l - suc (linksOf b) in
-          let same : suc (linksOf b + i) ≡ l = omega arith in
-          subst (λ (x : ℕ). T (lineFits b x)) same (subst (λ (x : Bool). T x) (sym (line-place i)) (fit i (omega arith)))
-
-  -- so many lines have the form, and the next one has not
-  stops-at : (g : ℕ) → g ≤ suc (linksOf b + placesOf b) → ((l : ℕ) → l < g → T (lineFits b l)) → (g < suc (linksOf b + placesOf b) → T (lineFits b g) → ⊥) → suc g ≡ stopsIn b
-  unfolding stopsIn
-  stops-at g within fit out =
-      ap suc (first-unique (record { within = within; holds = λ l. not-T (lineFits b g) (out l); least = λ i l t. T-not (lineFits b i) t (fit i l) }))
+          let i = l - 1 in
+          let same : suc i ≡ l = omega arith in
+          subst (λ (x : ℕ). T (lineFits b x)) same (subst (λ (x : Bool). T x) (sym (line-place b i (omega arith))) (fit (i - linksOf b) (omega arith)))
 
   -- ---- what the code has at the end
 
@@ -124,7 +97,7 @@ module _ (b : List ℕ) where
         places = λ t. absurd (f t);
         sound = λ t. absurd t;
         form = λ t. absurd (f t);
-        line = λ _. stops-at 0 (omega arith) (λ l h. absurd (omega arith)) (λ _. f);
+        line = λ _. stops-at b 0 (omega arith) (λ l h. absurd (omega arith)) (λ _. f);
         outside = λ t. absurd (f t);
         rows = λ t. absurd (f t);
         ordering = λ t. absurd (f t);
@@ -153,15 +126,11 @@ module _ (b : List ℕ) where
       not-large small = subst (λ (x : Bool). T x) small is-large
 
   pub few-small : large ≡ false → (pointsOf b ≤ 64) × (placesOf b ≤ pointsOf b)
-  few-small small =
-      let out : T large → ⊥ = λ t. subst (λ (x : Bool). T x) small t in (
-        nltb→le 64 (pointsOf b) (not-T (ltb 64 (pointsOf b)) (λ t. out (or-inl (ltb 64 (pointsOf b)) (ltb (pointsOf b) (placesOf b)) t))),
-        nltb→le (pointsOf b) (placesOf b) (not-T (ltb (pointsOf b) (placesOf b)) (λ t. out (or-inr (ltb 64 (pointsOf b)) (ltb (pointsOf b) (placesOf b)) t))),
-      )
+  few-small small = not-large (pointsOf b) (placesOf b) (λ t. subst (λ (x : Bool). T x) small t)
 
   module _ (head : T (headed b)) (small : large ≡ false) where
     few-lines : linksOf b + placesOf b < 20000
-    few-lines = let x = few-small small in omega (arith, x .0, x .1, headed-links b head)
+    few-lines = let x = few-small small in omega (arith, x .0, x .1, head-out b head .0)
 
     -- what the whole sheet comes to
     abbrev wholeRead : Parsed
@@ -189,20 +158,13 @@ module _ (b : List ℕ) where
           few = omega (arith, good, low, few-lines);
         }
 
-    formed-parts : T (formed b) → T (allBelow (linksOf b) (linkFits b)) × T (allBelow (placesOf b) (placeFits b))
-    unfolding formed
-    formed-parts t =
-        let links = allBelow (linksOf b) (linkFits b) in
-        let places = allBelow (placesOf b) (placeFits b) in
-        and-out links places (and-out (links && places) (eqb (length b) (placeStart b (placesOf b))) t .0)
-
     link-agrees : (j : ℕ) → j < linksOf b → ((i : ℕ) → i < j → T (linkFits b i)) → (T (linkFits b j) → ⊥) → Agrees wholeRead
     link-agrees j l fit out =
         let so = link-malformed b small j l fit out in
         subst Agrees (sym (so .1))
         (late-agrees j (linksSo b small (so .0) j) refl refl refl (length-replicate {A = ℕ} 64 0)
-        (stops-at (suc j) (omega arith) (lines-linked head j (omega arith) fit) (λ _ t. out (subst (λ (x : Bool). T x) (line-link j l) t)))
-        (λ t. out (all-out (linksOf b) (linkFits b) (formed-parts t .0) j l)) (omega arith))
+        (stops-at b (suc j) (omega arith) (lines-linked head j (omega arith) fit) (λ _ t. out (subst (λ (x : Bool). T x) (line-link b j l) t)))
+        (λ t. out (formed-out b t .0 j l)) (omega arith))
 
     module _ (linked : (i : ℕ) → i < linksOf b → T (linkFits b i)) where
       place-agrees : (j : ℕ) → j < placesOf b → ((i : ℕ) → i < j → T (placeFits b i)) → (T (placeFits b j) → ⊥) → Agrees wholeRead
@@ -210,8 +172,8 @@ module _ (b : List ℕ) where
           let so = place-malformed b small linked j l fit out in
           subst Agrees (sym (so .1))
           (late-agrees (linksOf b + j) (placesSo b small (so .0) j) refl refl refl (bytes-length b j)
-          (stops-at (suc (linksOf b + j)) (omega arith) (lines-placed head linked j fit) (λ _ t. out (subst (λ (x : Bool). T x) (line-place j) t)))
-          (λ t. out (all-out (placesOf b) (placeFits b) (formed-parts t .1) j l)) (omega arith))
+          (stops-at b (suc (linksOf b + j)) (omega arith) (lines-placed head linked j fit) (λ _ t. out (subst (λ (x : Bool). T x) (line-place b (linksOf b + j) (omega arith) ∙ ap (λ (i : ℕ). placeFits b i) (let same : linksOf b + j - linksOf b ≡ j = omega arith in same)) t)))
+          (λ t. out (formed-out b t .1 j l)) (omega arith))
 
       end-agrees : ((i : ℕ) → i < placesOf b → T (placeFits b i)) → Agrees wholeRead
       unfolding endRead formed
@@ -225,7 +187,7 @@ module _ (b : List ℕ) where
             places = λ _. refl;
             sound = λ _. (head, small);
             form = λ _ _. sym (ap₂ (λ (x y : Bool). (x && y) && eqb (length b) (placeStart b (placesOf b))) all-linked all-placed);
-            line = λ _. stops-at (suc (linksOf b + placesOf b)) (omega arith) (lines-placed head linked (placesOf b) fit) (λ l. absurd (omega arith));
+            line = λ _. stops-at b (suc (linksOf b + placesOf b)) (omega arith) (lines-placed head linked (placesOf b) fit) (λ l. absurd (omega arith));
             outside = λ _ _ _. refl;
             rows = λ _ _ _. refl;
             ordering = λ _ _ _. refl;

@@ -1,3 +1,4 @@
+pub mod Form
 pub mod LineByLine
 pub mod Sheets
 pub mod Joined
@@ -15,3 +16,4 @@ pub mod Longest
 pub mod Cut
 pub mod Ends
 pub mod Decided
+pub mod Stopping

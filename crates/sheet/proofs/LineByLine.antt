@@ -22,6 +22,7 @@ use Rattle.fields.specs.Field.{fieldAt}
 use Rattle.sheet.specs.Sheet.{isBelow, linkFitsAt, joined}
 use Rattle.sheet.specs.Parsing.{halted, begun, headRead, linkAdded, linkRead, placeAdded, placeRead, endRead, nextLine}
 use Rattle.sheet.specs.declared.lines.Parsed.{Parsed}
+use Rattle.sheet.proofs.Form.{numbers-out}
 
 pub record Chosen {A : Type 0} (test : Bool) (x y chosen : A) : Type 0 where
   pub same : cond test x y ≡ chosen
@@ -114,10 +115,7 @@ module _ (b : List ℕ) (i : ℕ) (p : Parsed) where
 
 -- the numbers of line 1 have four columns
 pub head-small : (n m k : ℕ) (ends : Bool) → (((ltb n 10000 && ltb m 10000) && ltb k 10000) && ends) ≡ true → (m < 10000) × (k < 10000)
-head-small n m k ends t =
-    let numbers = and-out ((ltb n 10000 && ltb m 10000) && ltb k 10000) ends (subst (λ (x : Bool). T x) (sym t) tt) .0 in
-    let two = and-out (ltb n 10000 && ltb m 10000) (ltb k 10000) numbers in
-    (ltb→lt m 10000 (and-out (ltb n 10000) (ltb m 10000) (two .0) .1), ltb→lt k 10000 (two .1))
+head-small n m k ends t = let x = numbers-out n m k ends (subst (λ (y : Bool). T y) (sym t) tt) in (x .0, x .1)
 
 -- the points of a link fit the rows
 pub link-small : (u v n : ℕ) (ends later : Bool) → n ≤ 64 → (((ltb u v && ltb v n) && ends) && later) ≡ true → (u < 64) × (v < 64)

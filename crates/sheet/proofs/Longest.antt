@@ -10,25 +10,25 @@
 -- Assumes nothing.
 use Prim.Native.Nat.{ℕ, zero, suc, _+_, _-_, _*_, _^_, _≤_, _<_}
 use mathlib.Core.Path.{_≡_, refl, ap, _∙_, subst}
-use mathlib.Core.Bool.{_&&_}
 use mathlib.Core.Logic.{_⊎_, inl, inr}
-use mathlib.Core.List.{List}
+use mathlib.Core.List.{List, []}
 use mathlib.Core.Option.{none}
 use native.Mathlib.Nat.{mul-suc, suc-mul}
 use native.Mathlib.Omega.{arith}
-use lib.Dec.{T, eqb, eqb→eq}
+use lib.Dec.{T}
 use lib.ListN.{length}
-use Rattle.bitset.specs.Below.{allBelow}
-use Rattle.bitset.proofs.Tests.{and-out, below-or}
-use Rattle.bitset.proofs.Below.{all-out}
-use Rattle.searches.specs.Ordering.{at}
-use Rattle.searches.specs.Answer.{judgeTests, Accepts}
-use Rattle.sheet.specs.Sheet.{pointsOf, linksOf, placesOf, linkStart, fromOf, toOf, beforeFrom, beforeTo, linkFits}
-use Rattle.sheet.specs.Sheet.{placeStart, placeFits, formed, readAnswer}
+use Rattle.bitset.proofs.Tests.{below-or}
+use Rattle.searches.specs.Ordering.{at, IsOrdering}
+use Rattle.searches.specs.Answer.{openTests, judgeTests, Accepts}
+use Rattle.sheet.specs.Sheet.{pointsOf, linksOf, placesOf, linkStart, fromOf, toOf, beforeFrom, beforeTo}
+use Rattle.sheet.specs.Sheet.{placeStart, formed, readAnswer}
 use Rattle.sheet.specs.Written.{linkList, sheetOf, longest}
 use Rattle.sheet.proofs.Accepted.{Line, line-out, accepted-out}
-use Rattle.sheet.proofs.Links.{below-out}
-use Rattle.sheet.proofs.RoundTrip.{reads-back, links-long}
+use Rattle.sheet.proofs.Form.{formed-out}
+use Rattle.sheet.proofs.Links.{below-out, valid-graph, fits}
+use Rattle.sheet.proofs.Written.{sheet-written}
+use Rattle.sheet.proofs.ReadBack.{written-accepted}
+use Rattle.sheet.proofs.RoundTrip.{reads-back}
 
 -- ---- pairs
 
@@ -109,13 +109,7 @@ module _ (b : List ℕ) (points : pointsOf b ≤ 64) (places : placesOf b ≤ po
   lines-short lines long = omega (arith, links-most b (linksOf b) lines points)
 
   pub formed-short : T (formed b) → length b ≤ longest
-  unfolding formed
-  formed-short t =
-      let links = allBelow (linksOf b) (linkFits b) in
-      let rest = allBelow (placesOf b) (placeFits b) in
-      let whole = and-out (links && rest) (eqb (length b) (placeStart b (placesOf b))) t in
-      lines-short (λ j l. line-out b j (all-out (linksOf b) (linkFits b) (and-out links rest (whole .0) .0) j l))
-      (eqb→eq (length b) (placeStart b (placesOf b)) (whole .1))
+  formed-short t = let x = formed-out b t in lines-short (λ j l. line-out b j (x .0 j l)) (x .2)
 
 module _ (b : List ℕ) (read : readAnswer b ≡ none) where
   pub longest-links : 2 * linksOf b ≤ pointsOf b * (pointsOf b - 1)
@@ -124,13 +118,14 @@ module _ (b : List ℕ) (read : readAnswer b ≡ none) where
   pub longest-sheet : length b ≤ longest
   longest-sheet = let x = accepted-out b read in lines-short b (x .points) (x .places) (x .link-lines) (x .long)
 
-module _ (kind : ℕ) (rows w : List ℕ) (valid : Accepts (judgeTests kind rows w)) (words : (u : ℕ) → u < length rows → at rows u < 2 ^ 64) where
-  pub longest-plan : 2 * length (linkList rows) ≤ length rows * (length rows - 1)
-  longest-plan =
-      let b = sheetOf rows w in
-      let r = reads-back kind rows w valid words in
-      let links : linksOf b ≡ length (linkList rows) = links-long b (accepted-out b (r .answer)) ∙ ap (λ (x : List ℕ). length (linkList x)) (r .graph) in
-      subst (λ (n : ℕ). 2 * length (linkList rows) ≤ n * (n - 1)) (r .points) (subst (λ (m : ℕ). 2 * m ≤ pointsOf b * (pointsOf b - 1)) links (longest-links b (r .answer)))
+pub longest-plan : (kind : ℕ) (rows : List ℕ) → Accepts (openTests kind rows) → 2 * length (linkList rows) ≤ length rows * (length rows - 1)
+longest-plan kind rows valid =
+    let b = sheetOf rows [] in
+    let graph = valid-graph kind rows valid in
+    let nothing : IsOrdering (length rows) [] 0 = record { long = omega arith; vertices = λ p l. absurd (omega arith); distinct = λ p q h l. absurd (omega arith) } in
+    let written = sheet-written rows [] (fits rows graph nothing) in
+    let few = links-halved b (linksOf b) (written-accepted b rows [] graph nothing written .link-lines) in
+    subst (λ (n : ℕ). 2 * length (linkList rows) ≤ n * (n - 1)) (written .points) (subst (λ (m : ℕ). 2 * m ≤ pointsOf b * (pointsOf b - 1)) (written .links) few)
 
-  pub longest-written : length (sheetOf rows w) ≤ longest
-  longest-written = longest-sheet (sheetOf rows w) (reads-back kind rows w valid words .answer)
+pub longest-written : (kind : ℕ) (rows w : List ℕ) → Accepts (judgeTests kind rows w) → ((u : ℕ) → u < length rows → at rows u < 2 ^ 64) → length (sheetOf rows w) ≤ longest
+longest-written kind rows w valid words = longest-sheet (sheetOf rows w) (reads-back kind rows w valid words .answer)

@@ -13,14 +13,15 @@ use mathlib.Core.List.{List}
 use native.Mathlib.Numerals.{add-one}
 use native.Mathlib.Omega.{arith}
 use denote.Ref.{now}
-use lib.Dec.{T, ltb, leb, eqb, ltb→lt, nltb→le, not-T, T-not}
-use Rattle.bitset.proofs.Tests.{and-out, not-not, or-inl, or-inr}
+use lib.Dec.{T, ltb, leb, eqb, not-T, T-not}
+use Rattle.bitset.proofs.Tests.{not-not}
 use Rattle.searches.specs.Ordering.{at}
 use Rattle.fields.specs.Field.{fieldAt}
 use Rattle.sheet.specs.Sheet.{linkFitsAt}
 use Rattle.sheet.specs.Parsing.{blank, halted, begun, headRead, linkAdded, linkRead, placeAdded, placeRead, endRead, nextLine, advanced, advancedBy, step, steps, parsedOf, Sound}
 use Rattle.sheet.specs.declared.lines.Parsed.{Parsed}
 use Rattle.sheet.specs.declared.reader.Progress.{Progress}
+use Rattle.sheet.proofs.Form.{numbers-out, not-large}
 
 -- what holds of both sides holds of the choice
 either : (P : Parsed → Type 0) (c : Bool) (x y : Parsed) → (T c → P x) → ((T c → ⊥) → P y) → P (cond c x y)
@@ -65,13 +66,8 @@ module _ (b : List ℕ) (i : ℕ) (p : Parsed) where
   begun-sound : (n m k e : ℕ) → T (Form n m k e) → Sound (begun n m k p)
   unfolding begun
   begun-sound n m k e form t =
-      let large = ltb 64 n || ltb n k in
-      let numbers = and-out ((ltb n 10000 && ltb m 10000) && ltb k 10000) (eqb e 10) form .0 in
-      let two = and-out (ltb n 10000 && ltb m 10000) (ltb k 10000) numbers .0 in (
-        nltb→le 64 n (not-T (ltb 64 n) (λ u. T-not large t (or-inl (ltb 64 n) (ltb n k) u))),
-        nltb→le n k (not-T (ltb n k) (λ u. T-not large t (or-inr (ltb 64 n) (ltb n k) u))),
-        ltb→lt m 10000 (and-out (ltb n 10000) (ltb m 10000) two .1),
-      )
+      let small = not-large n k (T-not (ltb 64 n || ltb n k) t) in
+      (small .0, small .1, numbers-out n m k (eqb e 10) form .0)
 
   pub sound-kept : Sound p → Sound (nextLine b i p)
   unfolding linkAdded placeAdded endRead
@@ -80,12 +76,8 @@ module _ (b : List ℕ) (i : ℕ) (p : Parsed) where
   -- line 1 says of few lines that they follow
   begun-few : (n m k e : ℕ) → T (Form n m k e) → begun n m k p .rest ≤ 10064
   unfolding begun
-  begun-few n m k e form = go (ltb 64 n || ltb n k) (λ f. begun-sound n m k e form (T-not-in (ltb 64 n || ltb n k) f))
+  begun-few n m k e form = go (ltb 64 n || ltb n k) (λ f. begun-sound n m k e form (not-T (ltb 64 n || ltb n k) f))
     where
-      T-not-in : (x : Bool) → (T x → ⊥) → T (not x)
-      T-not-in true f = f tt
-      T-not-in false f = tt
-
       go : (large : Bool) → ((T large → ⊥) → (n ≤ 64) × (k ≤ n) × (m < 10000)) → cond large 0 (m + k + 1) ≤ 10064
       go true small = omega arith
       go false small = let x = small (λ t. t) in omega (arith, x .0, x .1, x .2)

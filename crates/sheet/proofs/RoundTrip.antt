@@ -84,7 +84,7 @@ module _ (b : List ℕ) (x : Accepted b) where
   unfolding linkList
   links-same = lists-one-way (isLink (rowsOf b)) (64 * length (rowsOf b)) (linksOf b) (numberOf b) (numbers-list b x)
 
-  pub links-long : linksOf b ≡ length (linkList (rowsOf b))
+  links-long : linksOf b ≡ length (linkList (rowsOf b))
   links-long = sym (tabulate-length (numberOf b) (linksOf b)) ∙ ap length links-same
 
   link-same : (j : ℕ) → j < length (linkList (rowsOf b)) → at (linkList (rowsOf b)) j ≡ numberOf b j

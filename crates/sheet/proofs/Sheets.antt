@@ -2,23 +2,23 @@
 --   tabulate-length, tabulate-at     a list given entry by entry
 --   bytes-length, bytes-at           the places as bytes
 --   outside-same, repeated-same      refusals 8 and 9 on them
---   headed-links, all-inside         what line 1, and the places, say of their numbers
+--   all-inside                       what the places say of their numbers
 --   held-of                          what is held, part by part
 --   points-few, places-few, places-points, walk-read   what is known of a sheet that is read
 --   refused-late                     what an 11 says where line 1 has the form
 -- Assumes nothing.
 use Prim.Native.Nat.{ℕ, zero, suc, _+_, _%_, _≤_, _<_}
 use mathlib.Core.Path.{_≡_, refl, sym, ap, ap₂, _∙_, subst}
-use mathlib.Core.Bool.{Bool, false, _&&_}
+use mathlib.Core.Bool.{Bool, false}
 use mathlib.Core.Logic.{_⊎_, inl, inr}
 use mathlib.Core.List.{List, [], _∷_, _++_}
 use mathlib.Core.Option.{none, some}
 use native.Mathlib.Omega.{arith}
-use lib.Dec.{T, ltb, eqb, leb, ltb→lt, nltb→le, le→leb, not-T, T-not}
+use lib.Dec.{T, ltb, eqb, leb, nltb→le, le→leb, not-T, T-not}
 use lib.ListN.{length, take, set, length-append, length-set, length-replicate, List·getD-append}
 use lib.Seq.{getD-set-same, getD-set-other, getD-at, getD-take, length-take-le, ext-getD}
 use Rattle.bitset.specs.Below.{anyBelow}
-use Rattle.bitset.proofs.Tests.{and-out, is-false, below-or, below-suc}
+use Rattle.bitset.proofs.Tests.{is-false, below-or, below-suc}
 use Rattle.bitset.proofs.Below.{any-at, any-same}
 use Rattle.searches.specs.Ordering.{at}
 use Rattle.searches.specs.Answer.{vertexOutside, repeated, Accepts, Refuses}
@@ -80,14 +80,6 @@ module _ (b : List ℕ) where
       same p l = byte-point k p h l (small p l) ∙ sym (tabulate-at (placeAt b) k p l)
 
 -- ---- what the tests say
-
--- line 1 has numbers
-pub headed-links : (b : List ℕ) → T (headed b) → linksOf b < 10000
-unfolding headed
-headed-links b t =
-    let numbers = and-out ((ltb (pointsOf b) 10000 && ltb (linksOf b) 10000) && ltb (placesOf b) 10000) (eqb (at b 12) 10) t .0 in
-    let two = and-out (ltb (pointsOf b) 10000 && ltb (linksOf b) 10000) (ltb (placesOf b) 10000) numbers .0 in
-    ltb→lt (linksOf b) 10000 (and-out (ltb (pointsOf b) 10000) (ltb (linksOf b) 10000) two .1)
 
 -- all places are points where none is beyond
 pub all-inside : (b : List ℕ) (n k : ℕ) → false ≡ anyBelow k (beyond n b) → (p : ℕ) → p < k → placeAt b p < n
