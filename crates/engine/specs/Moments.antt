@@ -1,7 +1,7 @@
--- What is unplaced after an ordering, and its labels, for one that is to be grown.
---   noMoment                      the one of an ordering that does not pass: no vertex, empty labels
+-- The unplaced vertices and the labels after an ordering, for a caller that continues it.
+--   noMoment                      for an ordering that does not pass: no vertex, empty labels
 --   momentOf rows w               the unplaced vertices and the labels after all of w
---   momentAfter kind rows w       the latter where judge passes w, else the former
+--   momentAfter kind rows w       `momentOf` where judge passes w, else `noMoment`
 use Prim.Native.Nat.{ℕ}
 use mathlib.Core.Bool.{true, false, cond}
 use mathlib.Core.List.{List}

@@ -1,4 +1,4 @@
-// What is unplaced after an ordering, with its labels: what is asked of an ordering that is to be grown.
+// The unplaced vertices and the labels after an ordering, for a caller that continues it.
 use searches::Kind;
 use searches::Outcome;
 ghost use mathlib.Core.Path.{_≡_};
@@ -23,7 +23,7 @@ pub fn no_moment() -> Moment
     }
 }
 
-// Judges an ordering for one that wants to go on with it: checked and placed again once. Alters nothing.
+// Judges an ordering for a caller that continues it: it is checked and replayed once. Alters nothing.
 pub fn after(kind: Kind, rows: &[u64], ordering: &[u8]) -> Moment
     ensures { λ r. ⌜ r ≡ momentAfter (kind .0) (now (rows .entry)) (now (ordering .entry)) ⌝ }
 {

@@ -5,7 +5,7 @@
 --   fields xs, line xs  the fields of these numbers; a line with them                                 [01: line]
 --   isFieldAt b i x     the field of x stands in b from i on
 --   fieldAt b i         the number whose field stands there; 10000 where no number's does
---   digitValue c           what the byte c counts as a digit; 0 where it is none
+--   digitValue c        what the byte c counts as a digit; 0 where it is none
 --   digitsAt b i        what the four bytes from i on count
 use Prim.Native.Nat.{ℕ, _+_, _-_, _*_, _/_, _%_}
 use mathlib.Core.Bool.{Bool, cond, _&&_}

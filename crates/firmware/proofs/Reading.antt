@@ -92,7 +92,7 @@ pub rows-count : (plan : List ℕ) → length (planRows plan) ≡ length plan / 
 unfolding planRows
 rows-count plan = below-count plan (length plan / 8)
 
--- the part of the array that is lent on
+-- the part of the array that is passed on
 module _ (plan rows : List ℕ) (decoded : take (length plan / 8) rows ≡ planRows plan) where
   pub part-length : length plan / 8 ≡ length (take (length plan / 8) rows)
   part-length = sym (ap length decoded ∙ rows-count plan)

@@ -3,7 +3,7 @@
 --   wordAt m plan i        the m bytes from i on as one number, lowest first: the byte b places on counts 256 ^ b
 --   rowAt plan u           the u-th row: eight bytes from 8 u on                                 [01: eight bytes a row, lowest first]
 --   rowsBelow plan n       the first n rows
---   planRows plan            the rows that the plan's bytes hold
+--   planRows plan          the rows that the plan's bytes hold
 use Prim.Native.Nat.{ℕ, zero, suc, _+_, _*_, _/_, _^_}
 use mathlib.Core.List.{List, [], _∷_, _++_}
 use lib.ListN.{length, getD}

@@ -19,7 +19,7 @@ unfolding judgement judgedUnless
 cut-judged b = cut-unless b judgedUnless (λ r c. refl)
 
 pub read-itself : (buffer : List ℕ) (count : ℕ) → ReadInto buffer count (take count buffer)
-read-itself buffer count = record { as-far = sym (take-all (length buffer) (take count buffer) (omega (arith, length-take count buffer))) }
+read-itself buffer count = record { prefix = sym (take-all (length buffer) (take count buffer) (omega (arith, length-take count buffer))) }
 
 pub written-fits : (buffer : List ℕ) (count : ℕ) (out : List ℕ) {out′ : List ℕ} {r : ℕ} → ((b : List ℕ) → ReadInto buffer count b → out′ ≡ sets out 0 (judgement b))
     → ((b : List ℕ) → ReadInto buffer count b → r ≡ length (judgement b)) → 126 ≤ length out → r ≤ length out′

@@ -46,4 +46,4 @@ unfoldable pub judgementLength : List ℕ → List ℕ → ℕ
 judgementLength b out = cond (ltb (length out) room) 0 (length (judgement b))
 
 pub record ReadInto (buffer : List ℕ) (count : ℕ) (b : List ℕ) : Type 0 where
-  pub as-far : take count buffer ≡ take (length buffer) b
+  pub prefix : take count buffer ≡ take (length buffer) b

@@ -2,7 +2,7 @@
 -- done in the modules that the proofs cite. Demand 1; then 2 and 3 for any graph, that is any relation `arc` on the vertices below n, of which a
 -- plan with links both ways is a case; then 2 and 3 as the calls answer on kind byte, rows and lists.
 -- A function's contract is an equation with `judgeAnswer`, `carryOnAnswer` or `carryOnOutput`; a list that a contract does not name at exit is
--- lent as `&` and cannot change; that every call ends is part of every proof of a function.
+-- passed as `&` and cannot change; that every call ends is part of every proof of a function.
 -- Assumes nothing.
 use mathlib.Core.Path.{_≡_, sym, _∙_}
 use mathlib.Core.Logic.{_↔_}
@@ -30,7 +30,7 @@ use Rattle.searches.proofs.Refusals.{refuses-first, first-refuses}
 use Rattle.searches.proofs.Answers as answers
 use Rattle.searches.proofs.Parts as parts
 
--- ---- Demand 1: lent memory
+-- ---- Demand 1: the caller's memory
 
 -- each refusal in its stated case and no other: the answer is refusal r exactly when r's test holds and no earlier one does
 pub judge-refuses : (kind : ℕ) (rows w : List ℕ) (r : ℕ) → (judgeAnswer kind rows w ≡ refused r) ↔ Refuses r (judgeTests kind rows w)

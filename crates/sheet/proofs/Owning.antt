@@ -1,7 +1,7 @@
 -- What a reader owns, and what the lines so far own beside it: the laws that each walk over the reader cites.
---   Reads, Goes              the types of a reader and of a reader beside what was parsed, over a signature's lifetimes
---   OwnGoes, OwnParsed, OwnSlice     what each owns;   goesVal, parsedVal   its value in the machine
---   number                   what a number owns is had for nothing
+--   Goes                     the type of a reader beside what was parsed, over a signature's lifetimes
+--   OwnGoes, OwnParsed, OwnReader, OwnSlice     what each owns;   goesVal, parsedVal   its value in the machine
+--   number                   to own a number costs nothing
 --   twice                    a reader beside what was parsed is Copy
 --   apart, together          it is taken apart into the slice and what was parsed, and made of them at any offset
 -- The laws take `Given`. The rest assumes nothing.

@@ -1,7 +1,7 @@
 -- What is read of the lines of a sheet.
 --   beyond n b j              the number in the line of place j is no point
 --   placedBytes b k           64 bytes: the first k places, each by its lowest byte, and 0 behind them
---   heldIn b                  what is read of a sheet: all that it holds, or nothing where it is refused
+--   heldIn b                  what is read of a sheet: all that it holds, or nothing where it is refused;   heldUnless   the same by the answer
 use Prim.Native.Nat.{ℕ, zero, suc, _%_}
 use mathlib.Core.Bool.{Bool}
 use mathlib.Core.List.{List}

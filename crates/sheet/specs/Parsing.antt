@@ -1,8 +1,9 @@
 -- What the lines of a sheet come to, one after the other. b is the list of the sheet's bytes, i an offset in it.
 --   blank                     what is parsed before line 1
---   halted p                  a line is malformed: what stands before it, and nothing more
+--   halted p                  stopped at a malformed line, with what was parsed before it
 --   headRead b i p, linkRead b i p, placeRead b i p     line 1, a link's line, a place's line begins at i
---   endRead b i p               the sheet ends at i, or does not
+--   begun, linkAdded, placeAdded     what each comes to where it has the form
+--   endRead b i p             the sheet ends at i, or does not
 --   nextLine b i p            the line that is due: line 1, a link, a place, or the end; none where a line was malformed
 --   advanced g, advancedBy g j     one line, and j lines, read through the reader of g
 --   step b s, steps b j s     the same on an offset and what the lines before it come to
@@ -10,8 +11,8 @@
 --   parsedTests p, parsedAnswer p     what is refused of what a sheet comes to, in 01's order; the first that applies
 --   parsedLine answer p       the line of an 11, counted from 1, else 0
 --   Sound p                   n, m and k are small while the next line is worth reading
---   LinkDue p, PlaceDue p     there is room for the line of a link, of a place
---   Readable p                where all is sound and no place is outside, the places are points
+--   LinkDue p, PlaceDue p     there is room for the line of a link, of a place, and the count of lines is small
+--   Readable p                the count of lines is small, the ordering has 64 entries, and where all is sound and no place is outside, the places are points
 use Prim.Native.Nat.{ℕ, zero, suc, _+_, _-_, _%_, _<_, _≤_}
 use mathlib.Core.Path.{_≡_}
 use mathlib.Core.Bool.{Bool, true, false, cond, not, _&&_, _||_}

@@ -1,18 +1,20 @@
 -- A sheet: a line with n, m and k, then m lines with a link each, then k lines with a point each. b is the list of its bytes.
 --   pointsOf b, linksOf b, placesOf b     n, m and k of line 1
 --   headed b                  line 1 has the form
+--   linkStart j, placeStart b j           where the line of link j, of place j begins
 --   fromOf b j, toOf b j      the two points of link j;   beforeFrom b j, beforeTo b j   of the link before it, 0 and 0 for the first
 --   isBelow p q p′ q′         the pair p, q comes before the pair p′, q′
 --   linkFitsAt b i n p q, linkFits b j    the line of link j has the form, its points are points, smaller first, and it comes after the one before it
 --   placeAt b j               the number in the line of place j;   placeFits b j   the line has the form
 --   formed b                  all lines after the first have the form, and nothing follows
+--   joined u v rows, joinedRows b j       the rows with one link more, and with the first j links
 --   tabulate k f              the list of f 0 to f (k - 1)
 --   walkOf b, rowsOf b        the walk and the rows that the sheet holds
 --   sheetTests b              what is refused: numbers and tests in 01's order                      [01: the sheet, checks]
 --   readAnswer b              the number of the first test that holds
---   lineFits b l              the line behind l others has the form: line 1, then the links, then the places
---   stopsIn b                 the first line, counted from 1, that has not the form; where all have it, the one behind them
---   stoppedIn b               that line where the sheet is refused with 11, else 0
+--   lineFits b l              the line after l others has the form: line 1, then the links, then the places
+--   stopsIn b                 the first line, counted from 1, that has not the form; where all have it, the one after the last
+--   stoppedIn b               that line where the sheet is refused with 11, else 0;   stoppedWith   the same by the answer
 use Prim.Native.Nat.{ℕ, zero, suc, _+_, _-_, _*_}
 use mathlib.Core.Bool.{Bool, cond, not, _&&_, _||_}
 use mathlib.Core.List.{List, [], _∷_, _++_}

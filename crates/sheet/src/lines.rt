@@ -1,11 +1,12 @@
-// The lines of a sheet, each parsed from where it begins. Where that is, the reader knows.
+// The lines of a sheet, each parsed from where it begins. The reader knows where that is.
 use fields::field::byte_at;
 use fields::field::field;
 ghost use mathlib.Core.Path.{_≡_};
 ghost use Prim.Native.Nat.{_<_};
 ghost use Rattle.sheet.specs.Parsing.{halted, headRead, linkRead, placeRead, endRead, nextLine, Sound, LinkDue, PlaceDue};
 
-// What the lines so far hold. A number among the places that is no point is noted in `outside`.
+// What the lines so far hold. `from` and `to` are the points of the last link, 0 and 0 before the first; `outside` says that a number among
+// the places is no point.
 pub struct Content {
     pub n: usize,
     pub m: usize,
@@ -17,8 +18,8 @@ pub struct Content {
     pub ordering: [u8; 64],
 }
 
-// What the lines so far come to: `good` of them have the form, and `sound` says that the next one is worth reading: none was malformed, and
-// n and k are not too large. The last one took `width` bytes; `rest` steps follow line 1, the end among them.
+// What the lines so far come to. `good` of them have the form. `sound` says that none was malformed and that n and k are not too large; after
+// the end, that nothing follows. The last step took `width` bytes; `rest` steps follow line 1, the end among them.
 pub struct Parsed {
     pub good: usize,
     pub sound: bool,
@@ -27,7 +28,7 @@ pub struct Parsed {
     pub content: Content,
 }
 
-// A line is malformed: what stands before it, and nothing more.
+// Stops at a malformed line and keeps what was parsed before it.
 fn halt(parsed: Parsed) -> Parsed
     ensures { λ r. ⌜ r ≡ halted parsed ⌝ }
 {
@@ -104,7 +105,7 @@ fn link_line(sheet: &[u8], at: usize, parsed: Parsed) -> Parsed
     }
 }
 
-// A place's line. Its number goes to the ordering by its lowest byte.
+// A place's line. The lowest byte of its number is stored in the ordering.
 fn place_line(sheet: &[u8], at: usize, parsed: Parsed) -> Parsed
     requires { ⌜ (at < 900000) × PlaceDue parsed ⌝ }
     ensures { λ r. ⌜ r ≡ placeRead (now (sheet .entry)) at parsed ⌝ }
@@ -128,7 +129,7 @@ fn place_line(sheet: &[u8], at: usize, parsed: Parsed) -> Parsed
     }
 }
 
-// Behind the last line: nothing may follow.
+// After the last line: nothing may follow.
 fn end(sheet: &[u8], at: usize, parsed: Parsed) -> Parsed
     ensures { λ r. ⌜ r ≡ endRead (now (sheet .entry)) at parsed ⌝ }
 {

@@ -27,12 +27,13 @@ pub struct Reading {
     pub line: usize,
 }
 
-// The first of refusals 11, 2, 6, 11, 8 and 9 that applies, else `Done`, and the line of an 11.
+// A refusal or `Done`, and the line of an 11, else 0.
 struct Answer {
     outcome: Outcome,
     line: usize,
 }
 
+// The first of refusals 11, 2, 6, 11, 8 and 9 that applies to what a sheet came to, else `Done`.
 fn decide(parsed: Parsed) -> Answer
     requires { ⌜ Readable parsed ⌝ }
     ensures answer { λ r. ⌜ refusalOf (r .outcome) ≡ parsedAnswer parsed ⌝ }

@@ -26,7 +26,7 @@ returns : tie.Need-returns
 returns c =
     let a = c .before .before .before .args in
     let e = c .judge-first .ensures in
-    let whole : (b : List ℕ) → ReadInto (now (a .input)) (a .count) b → take (a .count) (now (a .input)) ≡ take (suc longest) b = λ b held. held .as-far ∙ ap (λ (n : ℕ). take n b) (room c) in (
+    let whole : (b : List ℕ) → ReadInto (now (a .input)) (a .count) b → take (a .count) (now (a .input)) ≡ take (suc longest) b = λ b held. held .prefix ∙ ap (λ (n : ℕ). take n b) (room c) in (
       λ b held. e .0 ∙ ap (λ (x : List ℕ). sets (now (a .output)) 0 (judgement x)) (whole b held) ∙ ap (λ (x : List ℕ). sets (now (a .output)) 0 x) (cut-judged b),
       (
         λ b held. e .1 .0 ∙ ap (λ (x : List ℕ). length (judgement x)) (whole b held) ∙ ap length (cut-judged b),

@@ -99,7 +99,7 @@ judged-lines-requires c κs = search needs
 same-length-2 : tie.Need-same-length-2
 same-length-2 c = search needs
 
--- the parts that are lent on are the rows and the walk
+-- the parts that are passed on are the rows and the walk
 lent : (c : tie.After-enum-told)
     → let b = now (c .before .before .before .before .before .before .args .sheet) in
     let h = c .before .before .before .read .result .held in
