@@ -1,6 +1,6 @@
 //! The library's two C functions, called on guarded copies of the lists.
 //!
-//! Each list is lent from the middle of a larger buffer. After the call every
+//! Each list is passed from the middle of a larger buffer. After the call every
 //! byte of the buffers is compared with what it must be.
 
 use crate::definition::Kind;
@@ -34,7 +34,7 @@ pub fn judge(kind: Kind, plan: &[u8], walk: &[u8]) -> u32 {
 
 /// Carry-on without guards, for the timing.
 pub fn carry_on(kind: Kind, plan: &[u8], tie_break: &[u8], output: &mut [u8], k: usize) -> u32 {
-    // SAFETY: each pointer goes with the length of its list, and `output` is lent to nobody else.
+    // SAFETY: each pointer goes with the length of its list, and nothing else refers to `output`.
     unsafe {
         vezhanip_carry_on(
             kind,
