@@ -5,7 +5,7 @@
 
 enum { POINTS = 4, PLAN_BYTES = 8 * POINTS };
 
-static const char *const kind_names[] = {"Generic", "BFS", "DFS", "LexBFS", "LexDFS", "MNS"};
+static const char *const kind_names[] = {"Generic", "BFS", "DFS", "LexBFS", "LexDFS", "MNS", "MCS"};
 
 /* Puts the link between u and v into both rows. */
 static void set_link(uint8_t *plan, unsigned u, unsigned v)
@@ -66,7 +66,7 @@ int main(void)
     set_link(p, 0, 1);
     set_link(p, 0, 2);
     set_link(p, 1, 3);
-    for (uint8_t kind = VEZHANIP_GENERIC; kind <= VEZHANIP_MNS; kind++) {
+    for (uint8_t kind = VEZHANIP_GENERIC; kind <= VEZHANIP_MCS; kind++) {
         judge(kind, p, walk, sizeof walk);
     }
 

@@ -1,6 +1,6 @@
 /*
  * Judging and carrying on walks over a plan. docs/MODEL.md explains plans,
- * walks, the six searches, fault triples and refusals, with examples.
+ * walks, the seven searches, fault triples and refusals, with examples.
  *
  * Lists
  *
@@ -29,7 +29,7 @@
  * The functions keep no state between calls and have no writable globals. Calls
  * may run at the same time, in threads and in interrupt handlers, as long as
  * none of them is given a list that another one is writing.
- * No recursion, no heap. Stack: 1,160 bytes for judge, 1,152 for carry-on,
+ * No recursion, no heap. Stack: 1,368 bytes for judge, as many for carry-on,
  * without the frames of the caller and of memset and memcpy.
  * The archive libfirmware.a is for x86-64 Linux (ELF, System V ABI). It needs
  * memset and memcpy, and nothing else.
@@ -37,9 +37,12 @@
 #ifndef VEZHANIP_H
 #define VEZHANIP_H
 
-/* The version of this interface. */
+/*
+ * The version of this interface. Additions raise the minor number; 1.1.0 adds
+ * MCS, kind 6.
+ */
 #define VEZHANIP_VERSION_MAJOR 1
-#define VEZHANIP_VERSION_MINOR 0
+#define VEZHANIP_VERSION_MINOR 1
 #define VEZHANIP_VERSION_PATCH 0
 #define VEZHANIP_VERSION                                         \
     (VEZHANIP_VERSION_MAJOR * 10000 + VEZHANIP_VERSION_MINOR * 100 \
@@ -59,12 +62,13 @@ extern "C" {
 #define VEZHANIP_LEX_BFS 3u
 #define VEZHANIP_LEX_DFS 4u
 #define VEZHANIP_MNS     5u
+#define VEZHANIP_MCS     6u
 
 /* The walk passes, or the carry-on is finished. */
 #define VEZHANIP_OK 0u
 
 /* Refusals. A refused call changes no list. */
-#define VEZHANIP_BAD_KIND           1u  /* kind above 5 */
+#define VEZHANIP_BAD_KIND           1u  /* kind above 6 */
 #define VEZHANIP_BAD_PLAN_SIZE      2u  /* more than 64 rows, or bytes not a multiple of eight */
 #define VEZHANIP_LINK_OUTSIDE       3u  /* a bit at or above n in some row */
 #define VEZHANIP_SELF_LINK          4u  /* a point linked to itself */
@@ -79,8 +83,9 @@ extern "C" {
 /*
  * A failed walk: VEZHANIP_FAILED + 65536 * a + 256 * b + c, where a, b, c is
  * its first fault triple. In a fault triple a is placed before b, c is placed
- * after b or not placed at all, a is linked to c and not to b, and no point d
- * excuses b. An excuse d is linked to b and placed before b, and
+ * after b or not placed at all, and a is linked to c and not to b. In MCS c
+ * also has more neighbours placed before b than b has. In the other kinds no
+ * point d excuses b. An excuse d is linked to b and placed before b, and
  *
  *   Generic  no further condition
  *   BFS      it is placed before a

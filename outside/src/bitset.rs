@@ -5,7 +5,7 @@
 
 mod search;
 
-use crate::definition::{Kind, BFS, DFS, LEX_BFS, LEX_DFS};
+use crate::definition::{Kind, BFS, DFS, LEX_BFS, LEX_DFS, MCS};
 use search::Search;
 
 const FAILED: u32 = 1 << 24;
@@ -47,7 +47,7 @@ fn two_way(rows: &[u64; 64], n: usize) -> bool {
 impl Graph {
     /// Refusals 1 to 5.
     fn read(kind: Kind, plan: &[u8]) -> Result<Graph, u32> {
-        if kind > 5 {
+        if kind > 6 {
             return Err(1);
         }
         let size = plan.len() / 8;
@@ -84,16 +84,23 @@ fn any_outside(n: usize, list: &[u8]) -> bool {
     list.iter().any(|&v| v as usize >= n)
 }
 
-/// A point stands twice in a list of points below 64.
-fn any_twice(list: &[u8]) -> bool {
-    let set = list.iter().fold(0u64, |set, &v| set | 1 << (v & 63));
-    set.count_ones() as usize != list.len()
+/// The points of a list.
+fn set(points: &[u8]) -> u64 {
+    points.iter().fold(0, |set, &v| set | 1 << (v & 63))
 }
 
-/// The first triple whose middle point is the one at place i, which was not offered.
+/// A point stands twice in a list of points below 64.
+fn any_twice(list: &[u8]) -> bool {
+    set(list).count_ones() as usize != list.len()
+}
+
+fn failure_code(a: u8, b: u8, c: u8) -> u32 {
+    FAILED | (a as u32) << 16 | (b as u32) << 8 | c as u32
+}
+
+/// The first triple whose middle point is the one at place i, which was not offered; for every kind but MCS.
 fn first_violation(kind: Kind, graph: &Graph, walk: &[u8], i: usize) -> u32 {
     let b = walk[i];
-    let set = |points: &[u8]| points.iter().fold(0u64, |set, &v| set | 1 << v);
     let before = set(&walk[..i]);
     let unplaced = below(graph.size) & !set(walk);
     let mut earlier = 0;
@@ -117,7 +124,26 @@ fn first_violation(kind: Kind, graph: &Graph, walk: &[u8], i: usize) -> u32 {
             .find(|&c| violated(c))
             .or_else(|| (0..graph.size as u8).find(|&c| holds(unplaced, c) && violated(c)));
         if let Some(c) = found {
-            return FAILED | (a as u32) << 16 | (b as u32) << 8 | c as u32;
+            return failure_code(a, b, c);
+        }
+    }
+    unreachable!("a point that was not offered is the middle of a triple")
+}
+
+/// The same for MCS: which points c have more neighbours before b than b has does not depend on a.
+fn first_mcs_violation(graph: &Graph, walk: &[u8], i: usize) -> u32 {
+    let b = walk[i];
+    let before = set(&walk[..i]);
+    let neighbours_before = |v: u8| (graph.row(v) & before).count_ones();
+    let of_b = neighbours_before(b);
+    let ahead = (0..graph.size as u8)
+        .filter(|&c| !holds(before, c) && neighbours_before(c) > of_b)
+        .fold(0u64, |set, c| set | 1 << c);
+    for &a in &walk[..i] {
+        let found = graph.row(a) & ahead;
+        if found != 0 && !holds(graph.row(a), b) {
+            let placed = walk[i + 1..].iter().copied().find(|&c| holds(found, c));
+            return failure_code(a, b, placed.unwrap_or(found.trailing_zeros() as u8));
         }
     }
     unreachable!("a point that was not offered is the middle of a triple")
@@ -150,6 +176,7 @@ pub fn judge(kind: Kind, plan: &[u8], walk: &[u8]) -> u32 {
         return 9;
     }
     match first_not_offered(&mut Search::new(kind, &graph), walk) {
+        Some(i) if kind == MCS => first_mcs_violation(&graph, walk, i),
         Some(i) => first_violation(kind, &graph, walk, i),
         None => 0,
     }

@@ -70,7 +70,7 @@ fn random_start(random: &mut Random, kind: Kind, graph: &Graph) -> Vec<u8> {
 // ---- Damage, one way for each refusal ----
 
 fn damage_kind(random: &mut Random, kind: &mut Kind) {
-    *kind = random.pick(&[6, 7, 8, 9, 128, 250, 255]);
+    *kind = random.pick(&[7, 8, 9, 10, 128, 250, 255]);
 }
 
 /// Too many rows, or a row with missing bytes.

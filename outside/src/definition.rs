@@ -1,13 +1,12 @@
-//! The definitions of 01, computed as they read, by trying everything.
+//! The definitions of 01, and of MCS from 02, computed as they read, by trying everything.
 //!
 //!   Graph                       a plan: one row of 64 bits for each point          [01: plan]
 //!   linked u v                  bit v of row u is set                              [01: linked]
 //!   label ordering v            which places hold a neighbour of v                 [01: label]
-//!   outranks kind c b           a point with label c is ahead of one with label b  [01: ahead]
+//!   outranks kind c b           a point with label c is ahead of one with label b  [01: ahead; 02: K1]
 //!   offered kind ordering       the points that may come next                      [01: offered]
 //!   begins_run kind ordering    each point was offered when it was placed          [01: a run begins with a walk]
-//!   is_violation kind a b c     a, b, c stand in the fault relation                [01: fault triples]
-//!   first_violation kind        the first of them                                  [01: first triple]
+//!   violation                   fault triples, and the first of them
 //!   judge, carry_on             the two calls, as the firmware sees them           [01: the calls]
 //!   open_walk                   the open walk, and its four calls
 //!   sheet                       the sheet: written, read and judged
@@ -16,7 +15,7 @@
 pub type Vertex = usize;
 /// A place in a walk.
 pub type Position = usize;
-/// Which of the six searches.
+/// Which of the seven searches.
 pub type Kind = u8;
 
 pub const GENERIC: Kind = 0;
@@ -25,9 +24,10 @@ pub const DFS: Kind = 2;
 pub const LEX_BFS: Kind = 3;
 pub const LEX_DFS: Kind = 4;
 pub const MNS: Kind = 5;
+pub const MCS: Kind = 6;
 
-pub const KINDS: [Kind; 6] = [GENERIC, BFS, DFS, LEX_BFS, LEX_DFS, MNS];
-pub const KIND_NAMES: [&str; 6] = ["Generic", "BFS", "DFS", "LexBFS", "LexDFS", "MNS"];
+pub const KINDS: [Kind; 7] = [GENERIC, BFS, DFS, LEX_BFS, LEX_DFS, MNS, MCS];
+pub const KIND_NAMES: [&str; 7] = ["Generic", "BFS", "DFS", "LexBFS", "LexDFS", "MNS", "MCS"];
 
 /// What C gets for the triple 0, 0, 0.
 pub const FAILED: u32 = 16_777_216;
@@ -71,6 +71,10 @@ fn largest(label: &[bool]) -> Option<Position> {
     (0..label.len()).rev().find(|&p| label[p])
 }
 
+fn how_many(label: &[bool]) -> usize {
+    label.iter().filter(|&&held| held).count()
+}
+
 /// A point with label c is ahead of one with label b.
 pub fn outranks(kind: Kind, c: &[bool], b: &[bool]) -> bool {
     let in_just_one = |p: &Position| c[*p] != b[*p];
@@ -89,6 +93,7 @@ pub fn outranks(kind: Kind, c: &[bool], b: &[bool]) -> bool {
         LEX_BFS => (0..c.len()).find(in_just_one).is_some_and(|p| c[p]),
         LEX_DFS => (0..c.len()).rev().find(in_just_one).is_some_and(|p| c[p]),
         MNS => b != c && (0..b.len()).all(|p| !b[p] || c[p]),
+        MCS => how_many(c) > how_many(b),
         _ => unreachable!("no such kind"),
     }
 }
@@ -107,81 +112,6 @@ pub fn begins_run(kind: Kind, graph: &Graph, ordering: &[u8]) -> bool {
     let was_offered =
         |i: Position| offered(kind, graph, &ordering[..i]).contains(&(ordering[i] as Vertex));
     (0..ordering.len()).all(was_offered)
-}
-
-// ---- Fault triples ----
-
-/// Where each point stands in the walk.
-struct Places(Vec<Option<Position>>);
-
-impl Places {
-    fn of(graph: &Graph, ordering: &[u8]) -> Places {
-        let place = |v: Vertex| ordering.iter().position(|&u| u as Vertex == v);
-        Places(graph.vertices().map(place).collect())
-    }
-
-    fn placed(&self, v: Vertex) -> bool {
-        self.0[v].is_some()
-    }
-
-    /// Both are placed, u before v.
-    fn before(&self, u: Vertex, v: Vertex) -> bool {
-        matches!((self.0[u], self.0[v]), (Some(p), Some(q)) if p < q)
-    }
-
-    /// Placed points go by place and come before unplaced ones, which go by number.
-    fn rank(&self, v: Vertex) -> (bool, usize) {
-        match self.0[v] {
-            Some(p) => (false, p),
-            None => (true, v),
-        }
-    }
-}
-
-fn is_violation(
-    kind: Kind,
-    graph: &Graph,
-    places: &Places,
-    (a, b, c): (Vertex, Vertex, Vertex),
-) -> bool {
-    let excuses = |d: Vertex| {
-        graph.linked(d, b)
-            && places.before(d, b)
-            && match kind {
-                GENERIC => true,
-                BFS => places.before(d, a),
-                DFS => places.before(a, d),
-                LEX_BFS => places.before(d, a) && !graph.linked(d, c),
-                LEX_DFS => places.before(a, d) && !graph.linked(d, c),
-                MNS => !graph.linked(d, c),
-                _ => unreachable!("no such kind"),
-            }
-    };
-    places.before(a, b)
-        && (places.before(b, c) || !places.placed(c))
-        && graph.linked(a, c)
-        && !graph.linked(a, b)
-        && !graph.vertices().any(excuses)
-}
-
-/// The triple with the earliest b, then the earliest a, then the first c.
-pub fn first_violation(
-    kind: Kind,
-    graph: &Graph,
-    ordering: &[u8],
-) -> Option<(Vertex, Vertex, Vertex)> {
-    let places = Places::of(graph, ordering);
-    let mut violations = Vec::new();
-    for a in graph.vertices() {
-        for b in graph.vertices() {
-            for c in graph.vertices() {
-                if is_violation(kind, graph, &places, (a, b, c)) {
-                    violations.push((a, b, c));
-                }
-            }
-        }
-    }
-    violations.into_iter().min_by_key(|&(a, b, c)| (places.rank(b), places.rank(a), places.rank(c)))
 }
 
 // ---- Refusals ----
@@ -208,7 +138,7 @@ fn plan_refusal(kind: Kind, plan: &[u8]) -> Option<u32> {
     let bit_outside = |u: Vertex| (n..64).any(|v| graph.linked(u, v));
     let one_way = |u: Vertex| (0..n).any(|v| graph.linked(u, v) && !graph.linked(v, u));
     first_of(&[
-        (1, &|| kind > 5),
+        (1, &|| kind > 6),
         (2, &|| n > 64 || !plan.len().is_multiple_of(8)),
         (3, &|| (0..n).any(bit_outside)),
         (4, &|| (0..n).any(|u| graph.linked(u, u))),
@@ -294,6 +224,9 @@ pub fn carry_on(
 
 pub mod open_walk;
 pub mod sheet;
+mod violation;
+
+pub use violation::first_violation;
 
 #[cfg(test)]
 mod tests;

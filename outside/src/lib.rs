@@ -1,10 +1,12 @@
-//! Recomputes what the verified library answers, from 01 alone, times it, and draws the pictures of the documents.
+//! Recomputes what the verified library answers, from 01 and 02 alone, times it, and draws the pictures of the
+//! documents.
 //!
-//!   definition   01's sentences as loops
+//!   definition   the sentences of 01 and 02 as loops
 //!   bitset       a fast implementation without proof, for the timing
 //!   entry        the library's two C functions, called with guarded lists
 //!   graphs       plans to try
 //!   orderings    walks and preference lists to try
+//!   carry_over   which kinds a walk passes because it passes another
 //!   calls        the inputs of one call, sound or damaged
 //!   sheets       sheets to try, sound or damaged
 //!   random       numbers from a fixed seed
@@ -13,6 +15,7 @@
 
 pub mod bitset;
 pub mod calls;
+pub mod carry_over;
 pub mod definition;
 pub mod graphs;
 pub mod orderings;

@@ -1,4 +1,4 @@
--- Each algorithm of document 001 produces exactly the runs of its search, for any relation `arc` and any n, so for graphs in one piece and in
+-- Each of the seven algorithms produces exactly the runs of its search, for any relation `arc` and any n, so for graphs in one piece and in
 -- several. An ordering is produced when some start vertex and some choices, wherever the algorithm leaves one open, number the vertices so.
 -- The work is done in the modules that the proofs cite.
 -- Assumes nothing.
@@ -9,7 +9,7 @@ use mathlib.Core.List.{List, []}
 use Prim.Native.Nat.{ℕ, suc}
 use lib.Dec.{T}
 use Rattle.bitset.proofs.Tests.{and-in, and-out}
-use Rattle.searches.specs.Kind.{Search, generic, bfs, dfs, lexBfs, lexDfs, mns}
+use Rattle.searches.specs.Kind.{Search, generic, bfs, dfs, lexBfs, lexDfs, mns, mcs}
 use Rattle.searches.specs.Ordering.{at, IsFullOrdering}
 use Rattle.searches.specs.Run.{Run}
 use Rattle.searches.specs.Violation.{Violates, passes, judge}
@@ -22,6 +22,7 @@ use Rattle.algorithms.specs.LexBfsDigits.{appended, lexBfsDigits}
 use Rattle.algorithms.specs.DepthStack.{push, depthStack}
 use Rattle.algorithms.specs.LexDfsDigits.{prepended, lexDfsDigits}
 use Rattle.algorithms.specs.MaximalNeighbourhood.{neighbourSets, maximalNeighbourhood}
+use Rattle.algorithms.specs.MaximumCardinality.{countedSets, maximumCardinality}
 use Rattle.algorithms.specs.Printed.{printed}
 use Rattle.algorithms.specs.Following.{follows, follower, fullList, producible}
 use Rattle.algorithms.specs.Lists.{backward, Pairwise}
@@ -31,7 +32,7 @@ use Rattle.algorithms.proofs.BreadthQueue.{LastFirst, enqueue-adding}
 use Rattle.algorithms.proofs.DepthStack.{push-adding}
 use Rattle.algorithms.proofs.Labelling.{labelling-agrees}
 use Rattle.algorithms.proofs.DigitLabels.{Spells, from-n, appended-reading, prepended-reading}
-use Rattle.algorithms.proofs.NeighbourSets.{Numbers, neighbour-reading}
+use Rattle.algorithms.proofs.NeighbourSets.{Numbers, neighbour-reading, counted-reading}
 use Rattle.algorithms.proofs.Lift.{run-full, Agrees, agrees-runs, agrees-follows}
 use Rattle.algorithms.proofs.Lists.{fullList-in, fullList-out}
 
@@ -43,6 +44,7 @@ module _ (arc : ℕ → ℕ → Bool) (n : ℕ) where
   agrees lexBfs = labelling-agrees lexBfs arc n (appended n) (Spells (from-n n)) (appended-reading n)
   agrees lexDfs = labelling-agrees lexDfs arc n prepended (Spells suc) (prepended-reading n)
   agrees mns = labelling-agrees mns arc n (neighbourSets n) Numbers (neighbour-reading n)
+  agrees mcs = labelling-agrees mcs arc n (countedSets n) Numbers (counted-reading n)
 
   module _ (w : List ℕ) where
     -- the algorithm printed for a search produces an ordering exactly when it is a run of that search
@@ -73,6 +75,10 @@ module _ (arc : ℕ → ℕ → Bool) (n : ℕ) where
     pub maximal-neighbourhood : Produced (maximalNeighbourhood arc n) n w ↔ Run mns arc n w
     maximal-neighbourhood = produced-runs mns
 
+    -- algorithm 7, MCS, on the same sets, by how many numbers they hold
+    pub maximum-cardinality : Produced (maximumCardinality arc n) n w ↔ Run mcs arc n w
+    maximum-cardinality = produced-runs mcs
+
     module _ (s : Search) where
       -- what is produced has each vertex once,
       pub produced-full : Produced (printed s arc n) n w → IsFullOrdering n w
@@ -85,7 +91,7 @@ module _ (arc : ℕ → ℕ → Bool) (n : ℕ) where
         λ p. produced-runs s .1 (passes-run s arc n w full p),
       )
 
-      -- and exactly when no three vertices stand in the fault relation: theorems 2.1, 2.2, 2.4, 2.5, 2.7 and 2.8 of document 001
+      -- and exactly when no three vertices stand in the fault relation: theorems 2.1, 2.2, 2.4, 2.5, 2.7 and 2.8 of document 001, and the same of MCS
       pub produced-unfaulted : IsFullOrdering n w → Produced (printed s arc n) n w ↔ ((i j c : ℕ) → Violates s arc n w n i j c → ⊥)
       produced-unfaulted full = (
         λ p. passes-unviolated s arc n w n (full .ordering) (produced-passes full .0 p),

@@ -14,7 +14,7 @@ use Rattle.bitset.proofs.Tests.{decided, below-suc, cond-yes, cond-no}
 use Rattle.bitset.proofs.Below.{Some}
 use Rattle.searches.specs.Kind.{bfs}
 use Rattle.searches.specs.Label.{label, outranks}
-use Rattle.searches.specs.Violation.{excuses}
+use Rattle.searches.specs.Violation.{condition}
 use Rattle.searches.proofs.Reason.{Reason, outranks→reason, reason→outranks}
 use Rattle.algorithms.specs.Lists.{among, backward, Pairwise, each}
 use Rattle.algorithms.specs.Algorithm.{awaits}
@@ -39,15 +39,15 @@ enqueue-new queue u out = cond-no (among queue u) queue (queue ++ u ∷ []) out
 module _ (k : ℕ) (c b : ℕ → Bool) where
   -- a label with a position is not overtaken
   not-overtaken : Some k b → (T (outranks bfs k c b) → ⊥) → T (outranks bfs (suc k) c b) → ⊥
-  unfolding excuses
+  unfolding condition
   not-overtaken some behind t = let r = outranks→reason (suc k) c b bfs t in go r (below-suc k (r .position) (r .below))
     where
-      go : (r : Reason (excuses bfs) (suc k) c b) → (r .position < k) ⊎ (r .position ≡ k) → ⊥
-      go r (inl l) = behind (ahead-already bfs k c b r l)
+      go : (r : Reason (condition bfs) (suc k) c b) → (r .position < k) ⊎ (r .position ≡ k) → ⊥
+      go r (inl l) = behind (reason→outranks k c b bfs (ahead-already k c b r l))
       go r (inr e) = r .unexcused (some .at) (omega (arith, some .below)) (some .holds) (lt→ltb (some .at) (r .position) (omega (arith, some .below)))
 
   stays-ahead : T (outranks bfs k c b) → T (outranks bfs (suc k) c b)
-  unfolding excuses
+  unfolding condition
   stays-ahead t =
       let r = outranks→reason k c b bfs t in
       reason→outranks (suc k) c b bfs (record {
@@ -60,7 +60,7 @@ module _ (k : ℕ) (c b : ℕ → Bool) where
 
   -- who was found earlier is ahead
   found-earlier : Some k c → ((p : ℕ) → p < k → T (b p) → ⊥) → T (outranks bfs (suc k) c b)
-  unfolding excuses
+  unfolding condition
   found-earlier some none = reason→outranks (suc k) c b bfs (record {
     position = some .at;
     below = omega (arith, some .below);
@@ -73,7 +73,7 @@ module _ (k : ℕ) (c b : ℕ → Bool) where
   found-now : ((p : ℕ) → p < k → T (c p) → ⊥) → T (b k) → T (outranks bfs (suc k) c b) → ⊥
   found-now none new t = let r = outranks→reason (suc k) c b bfs t in go r (below-suc k (r .position) (r .below))
     where
-      go : (r : Reason (excuses bfs) (suc k) c b) → (r .position < k) ⊎ (r .position ≡ k) → ⊥
+      go : (r : Reason (condition bfs) (suc k) c b) → (r .position < k) ⊎ (r .position ≡ k) → ⊥
       go r (inl l) = none (r .position) l (r .ours)
       go r (inr e) = r .theirs (subst (λ (p : ℕ). T (b p)) (sym e) new)
 

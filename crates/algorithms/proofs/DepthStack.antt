@@ -8,12 +8,12 @@ use mathlib.Core.Logic.{_⊎_, inl, inr}
 use mathlib.Core.List.{List, [], _∷_, _++_}
 use Prim.Native.Nat.{ℕ, suc, _<_}
 use native.Mathlib.Omega.{arith}
-use lib.Dec.{T, ltb→lt, lt→ltb, eqb, eqb→eq, eqb-refl, not-T, T-not}
+use lib.Dec.{T, ltb, ltb→lt, lt→ltb, eqb, eqb→eq, eqb-refl, not-T, T-not}
 use lib.ListN.{length}
 use Rattle.bitset.proofs.Tests.{decided, below-suc}
 use Rattle.searches.specs.Kind.{dfs}
 use Rattle.searches.specs.Label.{label, outranks}
-use Rattle.searches.specs.Violation.{excuses}
+use Rattle.searches.specs.Violation.{condition}
 use Rattle.searches.proofs.Reason.{Reason, outranks→reason, reason→outranks}
 use Rattle.algorithms.specs.Lists.{among, keep, Pairwise, InAnyOrder, each}
 use Rattle.algorithms.specs.Algorithm.{numbered, awaits}
@@ -58,16 +58,16 @@ push-one = record {
 module _ (k : ℕ) (c b : ℕ → Bool) where
   -- nobody is ahead of one with the new position
   on-top : T (b k) → T (outranks dfs (suc k) c b) → ⊥
-  unfolding excuses
+  unfolding condition
   on-top new t = let r = outranks→reason (suc k) c b dfs t in go r (below-suc k (r .position) (r .below))
     where
-      go : (r : Reason (excuses dfs) (suc k) c b) → (r .position < k) ⊎ (r .position ≡ k) → ⊥
+      go : (r : Reason (condition dfs) (suc k) c b) → (r .position < k) ⊎ (r .position ≡ k) → ⊥
       go r (inl l) = r .unexcused k (omega arith) new (lt→ltb (r .position) k l)
       go r (inr e) = r .theirs (subst (λ (p : ℕ). T (b p)) (sym e) new)
 
   -- who has it is ahead of one who has not
   moved-past : T (c k) → (T (b k) → ⊥) → T (outranks dfs (suc k) c b)
-  unfolding excuses
+  unfolding condition
   moved-past new none = reason→outranks (suc k) c b dfs (record {
     position = k;
     below = omega arith;
@@ -78,13 +78,15 @@ module _ (k : ℕ) (c b : ℕ → Bool) where
 
   -- between two who have it not nothing changes
   still-behind : (T (c k) → ⊥) → (T (outranks dfs k c b) → ⊥) → T (outranks dfs (suc k) c b) → ⊥
+  unfolding condition
   still-behind none behind t = let r = outranks→reason (suc k) c b dfs t in go r (below-suc k (r .position) (r .below))
     where
-      go : (r : Reason (excuses dfs) (suc k) c b) → (r .position < k) ⊎ (r .position ≡ k) → ⊥
-      go r (inl l) = behind (ahead-already dfs k c b r l)
+      go : (r : Reason (condition dfs) (suc k) c b) → (r .position < k) ⊎ (r .position ≡ k) → ⊥
+      go r (inl l) = behind (reason→outranks k c b dfs (ahead-already k c b r l))
       go r (inr e) = none (subst (λ (p : ℕ). T (c p)) e (r .ours))
 
   still-ahead : (T (b k) → ⊥) → T (outranks dfs k c b) → T (outranks dfs (suc k) c b)
+  unfolding condition
   still-ahead none t =
       let r = outranks→reason k c b dfs t in
       reason→outranks (suc k) c b dfs (record {
@@ -95,7 +97,7 @@ module _ (k : ℕ) (c b : ℕ → Bool) where
         unexcused = λ d h p x. go r d p x (below-suc k d h);
       })
     where
-      go : (r : Reason (excuses dfs) k c b) (d : ℕ) → T (b d) → T (excuses dfs (r .position) d (c d)) → (d < k) ⊎ (d ≡ k) → ⊥
+      go : (r : Reason (condition dfs) k c b) (d : ℕ) → T (b d) → T (ltb (r .position) d) → (d < k) ⊎ (d ≡ k) → ⊥
       go r d p x (inl l) = r .unexcused d l p x
       go r d p x (inr e) = none (subst (λ (q : ℕ). T (b q)) e p)
 

@@ -14,7 +14,7 @@ use lib.Dec.{T, ltb→lt, lt→ltb, not-T, T-not}
 use Rattle.bitset.proofs.Tests.{and-in, and-out, decided, below-suc}
 use Rattle.searches.specs.Kind.{Search, lexBfs, lexDfs}
 use Rattle.searches.specs.Label.{outranks}
-use Rattle.searches.specs.Violation.{excuses}
+use Rattle.searches.specs.Violation.{noneExcuses, condition}
 use Rattle.searches.proofs.Reason.{Reason, outranks→reason, reason→outranks, earlier, later}
 use Rattle.algorithms.specs.Lists.{among}
 use Rattle.algorithms.specs.Digits.{lexLarger, digitLabels}
@@ -42,7 +42,7 @@ module _ (digit : ℕ → ℕ) (before : ℕ → ℕ → Bool) (k : ℕ) (law : 
   spelled : (f : ℕ → Bool) (zs : List ℕ) → Spells digit k f zs → (p : ℕ) → p < k → T (among zs (digit p)) → T (f p)
   spelled f zs s p l t = let q = s .only (digit p) t in subst (λ (x : ℕ). T (f x)) (law .apart (q .0) p (q .1) l (q .3)) (q .2)
 
-  spelled-ahead : T (lexLarger xs ys) → Reason (λ i d inC. before d i && not inC) k c b
+  spelled-ahead : T (lexLarger xs ys) → Reason (λ i. noneExcuses (λ d inC. before d i && not inC)) k c b
   spelled-ahead t =
       let most : LargestDifference xs ys = larger-out xs ys (cs .falling) (bs .falling) t in
       let p = cs .only (most .digit) (most .ours) in
@@ -57,7 +57,7 @@ module _ (digit : ℕ → ℕ) (before : ℕ → ℕ → Bool) (k : ℕ) (law : 
             T-not (c d) (both .1) (spelled c xs cs d l (most .above (digit d) (bs .all d l inB) (omega (arith, p .3))));
       }
 
-  ahead-spelled : Reason (λ i d inC. before d i && not inC) k c b → T (lexLarger xs ys)
+  ahead-spelled : Reason (λ i. noneExcuses (λ d inC. before d i && not inC)) k c b → T (lexLarger xs ys)
   ahead-spelled r = larger-in xs ys (cs .falling) (bs .falling) (record {
     digit = digit (r .position);
     ours = cs .all (r .position) (r .below) (r .ours);
@@ -116,7 +116,7 @@ module _ (digit : ℕ → ℕ) (k : ℕ) (f : ℕ → Bool) where
 module _ (s : Search) (n first : ℕ) (put : ℕ → List ℕ → List ℕ) (digit : ℕ → ℕ) (before : ℕ → ℕ → Bool) where
   digits-reading : ((k : ℕ) → k ≤ n → Falling k digit before)
       → ((k : ℕ) (f : ℕ → Bool) (xs : List ℕ) → k < n → T (f k) → Spells digit k f xs → Spells digit (suc k) f (put (suc k) xs))
-      → ((k : ℕ) (c b : ℕ → Bool) → Reason (λ i d inC. before d i && not inC) k c b ↔ T (outranks s k c b))
+      → ((k : ℕ) (c b : ℕ → Bool) → Reason (λ i. noneExcuses (λ d inC. before d i && not inC)) k c b ↔ T (outranks s k c b))
       → Reading s n (digitLabels first put) (Spells digit)
   unfolding lexLarger
   digits-reading law puts rule = record {
@@ -150,8 +150,8 @@ module _ (n : ℕ) where
       (pairwise-last (λ x y. y < x) xs (from-n k) (m .falling) (λ x t. let p = m .only x t in omega (arith, p .1, p .3)))
       (among-last xs (from-n k) (from-n k) refl) (λ x t. among-append-left xs (from-n k ∷ []) x t) (λ x t. among-last-out xs (from-n k) x t)
 
-  lexBfs-rule : (k : ℕ) (c b : ℕ → Bool) → Reason (λ i d inC. earlier d i && not inC) k c b ↔ T (outranks lexBfs k c b)
-  unfolding excuses
+  lexBfs-rule : (k : ℕ) (c b : ℕ → Bool) → Reason (λ i. noneExcuses (λ d inC. earlier d i && not inC)) k c b ↔ T (outranks lexBfs k c b)
+  unfolding condition
   lexBfs-rule k c b = (reason→outranks k c b lexBfs, outranks→reason k c b lexBfs)
 
   pub appended-reading : Reading lexBfs n (appended n) (Spells from-n)
@@ -176,8 +176,8 @@ spells-prepended k f xs new m =
     turn (inl e) = inr e
     turn (inr t) = inl t
 
-lexDfs-rule : (k : ℕ) (c b : ℕ → Bool) → Reason (λ i d inC. later d i && not inC) k c b ↔ T (outranks lexDfs k c b)
-unfolding excuses
+lexDfs-rule : (k : ℕ) (c b : ℕ → Bool) → Reason (λ i. noneExcuses (λ d inC. later d i && not inC)) k c b ↔ T (outranks lexDfs k c b)
+unfolding condition
 lexDfs-rule k c b = (reason→outranks k c b lexDfs, outranks→reason k c b lexDfs)
 
 pub prepended-reading : (n : ℕ) → Reading lexDfs n prepended (Spells suc)

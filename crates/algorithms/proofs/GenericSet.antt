@@ -15,7 +15,7 @@ use Rattle.bitset.proofs.Below.{Some, any-out, any-at}
 use Rattle.searches.specs.Kind.{generic}
 use Rattle.searches.specs.Label.{label}
 use Rattle.searches.specs.Run.{offered}
-use Rattle.searches.specs.Violation.{excuses}
+use Rattle.searches.specs.Violation.{condition}
 use Rattle.searches.proofs.Reason.{outranks→reason}
 use Rattle.searches.proofs.Run.{offered-in, offered-out, restart-allowed, restart-only-then}
 use Rattle.algorithms.specs.Algorithm.{numbered, awaits}
@@ -65,7 +65,7 @@ module _ (arc : ℕ → ℕ → Bool) (n : ℕ) where
   -- who is in the set has a position, and any position excuses in generic search
   candidate-offered : (w : List ℕ) (set : ℕ → Bool) (v : ℕ) → Holds w set → v < n → (T (numbered w v) → ⊥) → Candidate n set w v
       → T (offered generic arc n w (length w) v)
-  unfolding excuses
+  unfolding condition
   candidate-offered w set v holds l out (inside t) =
       let s = holds v l out .0 t in
       offered-in generic arc n w (length w) v (record {

@@ -4,7 +4,7 @@
 --   awaits-in, awaits-out                           awaits: v leads to u, which stays unnumbered
 --   label-same, label-now                           labels keep their positions; length w is a new one where v leads to u
 --   reached-after, reached-now, reached-before      who has a position in the label
---   ahead-already                                   who is ahead by an old position was ahead before
+--   ahead-already                                   who is ahead by an old position was ahead before, in a search that goes by excuses
 -- Assumes nothing.
 use mathlib.Core.Path.{_≡_, sym, ap, _∙_, subst}
 use mathlib.Core.Bool.{Bool, not}
@@ -17,10 +17,9 @@ use lib.ListN.{length}
 use Rattle.bitset.proofs.Tests.{and-in, and-out, below-suc}
 use Rattle.bitset.proofs.Below.{Some}
 use Rattle.searches.specs.Ordering.{at}
-use Rattle.searches.specs.Kind.{Search}
-use Rattle.searches.specs.Label.{label, outranks}
-use Rattle.searches.specs.Violation.{excuses}
-use Rattle.searches.proofs.Reason.{Reason, reason→outranks}
+use Rattle.searches.specs.Label.{label}
+use Rattle.searches.specs.Violation.{noneExcuses}
+use Rattle.searches.proofs.Reason.{Reason}
 use Rattle.searches.proofs.Ordering.{placed-in, placed-out, length-grown, grown-agree, grown-last}
 use Rattle.algorithms.specs.Algorithm.{numbered, awaits}
 use Rattle.algorithms.specs.Following.{free}
@@ -88,12 +87,13 @@ module _ (w : List ℕ) (v : ℕ) where
         go p t (inl l) = inl (record { at = p; below = l; holds = subst (λ (b : Bool). T b) (label-same p l) t })
         go p t (inr e) = inr (subst (λ (b : Bool). T b) (ap (λ (q : ℕ). label arc (w ++ v ∷ []) u q) e ∙ label-now) t)
 
--- who is ahead by a position that was there before is ahead already
-pub ahead-already : (s : Search) (k : ℕ) (c b : ℕ → Bool) (r : Reason (excuses s) (suc k) c b) → r .position < k → T (outranks s k c b)
-ahead-already s k c b r l = reason→outranks k c b s (record {
+-- in a search that goes by excuses, who is ahead by a position that was there before is ahead already
+pub ahead-already : {excuses : ℕ → ℕ → Bool → Bool} (k : ℕ) (c b : ℕ → Bool) (r : Reason (λ i. noneExcuses (excuses i)) (suc k) c b) → r .position < k
+    → Reason (λ i. noneExcuses (excuses i)) k c b
+ahead-already k c b r l = record {
   position = r .position;
   below = l;
   ours = r .ours;
   theirs = r .theirs;
   unexcused = λ d h. r .unexcused d (omega arith);
-})
+}

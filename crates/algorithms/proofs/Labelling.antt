@@ -1,4 +1,4 @@
--- Algorithms 3, 5 and 6 at once: where labels can be read as sets of positions so that larger is ahead, what is produced are the runs.
+-- Algorithms 3, 5, 6 and 7 at once: where labels can be read as sets of positions so that larger is ahead, what is produced are the runs.
 --   Reading s n ls means    `means k f l`: with k vertices numbered, the label l says the positions f; and what that has to keep to
 --   labelling-agrees        then the algorithm agrees with the search
 -- Assumes nothing.

@@ -1,8 +1,8 @@
--- The 3-sun of document 001 (figure 2.1) run through the six algorithms by computation: a triangle 2, 3, 5 with a vertex on each of its edges,
+-- The 3-sun of document 001 (figure 2.1) run through the seven algorithms by computation: a triangle 2, 3, 5 with a vertex on each of its edges,
 -- 1 on 2-3, 4 on 2-5 and 6 on 3-5. Written as there, from 1 on; the definitions count from 0.
 --   rows                 the orderings that document 001 names in sections 2.1 to 2.6, and for each algorithm whether it produces them
 --   rows-right           every entry of the table is right
---   after-1-2            which orderings that begin with 1, 2 are produced by algorithms 2, 3, 5 and 6
+--   after-1-2            which orderings that begin with 1, 2 are produced by algorithms 2, 3, 5, 6 and 7
 --   how-many             how many of the orderings that begin with 1 each algorithm produces
 --   two-pieces           beside it a graph in two pieces: the second is started when the first is done, and no earlier
 --   labels-of-5-and-4    the labels that section 2.3 gives
@@ -14,9 +14,9 @@ use mathlib.Core.List.{List, [], _∷_, _++_, map}
 use Prim.Native.Nat.{ℕ, _-_}
 use lib.Dec.{T, eqb, T-not}
 use lib.ListN.{length}
-use Rattle.bitset.specs.Below.{anyBelow, allBelow, within}
+use Rattle.bitset.specs.Below.{anyBelow, allBelow, countBelow, within}
 use Rattle.bitset.proofs.Tests.{and-out}
-use Rattle.searches.specs.Kind.{Search, generic, bfs, dfs, lexBfs, lexDfs, mns}
+use Rattle.searches.specs.Kind.{Search, generic, bfs, dfs, lexBfs, lexDfs, mns, mcs}
 use Rattle.searches.specs.Ordering.{placed}
 use Rattle.searches.specs.Answer.{vertexOutside, repeated}
 use Rattle.algorithms.specs.Lists.{among, keep, backward, each}
@@ -54,25 +54,25 @@ sun = joined edges
 
 record Row : Type 0 where
   ordering : List ℕ
-  -- by algorithms 1, 2, 4, 3, 5, 6
+  -- by algorithms 1, 2, 4, 3, 5, 6, 7
   produced : List Bool
 
 searches : List Search
-searches = generic ∷ bfs ∷ dfs ∷ lexBfs ∷ lexDfs ∷ mns ∷ []
+searches = generic ∷ bfs ∷ dfs ∷ lexBfs ∷ lexDfs ∷ mns ∷ mcs ∷ []
 
 rows : List Row
 rows =
     -- 2.1: no search ordering; a search ordering that is neither BFS nor DFS
-    record { ordering = 1 ∷ 6 ∷ 2 ∷ 3 ∷ 4 ∷ 5 ∷ []; produced = false ∷ false ∷ false ∷ false ∷ false ∷ false ∷ [] }
-    ∷ record { ordering = 1 ∷ 2 ∷ 4 ∷ 3 ∷ 5 ∷ 6 ∷ []; produced = true ∷ false ∷ false ∷ false ∷ false ∷ false ∷ [] }
+    record { ordering = 1 ∷ 6 ∷ 2 ∷ 3 ∷ 4 ∷ 5 ∷ []; produced = false ∷ false ∷ false ∷ false ∷ false ∷ false ∷ false ∷ [] }
+    ∷ record { ordering = 1 ∷ 2 ∷ 4 ∷ 3 ∷ 5 ∷ 6 ∷ []; produced = true ∷ false ∷ false ∷ false ∷ false ∷ false ∷ false ∷ [] }
     -- 2.2 and 2.3: BFS, and not LexBFS; not BFS
-    ∷ record { ordering = 1 ∷ 2 ∷ 3 ∷ 4 ∷ 5 ∷ 6 ∷ []; produced = true ∷ true ∷ false ∷ false ∷ false ∷ false ∷ [] }
-    ∷ record { ordering = 1 ∷ 2 ∷ 3 ∷ 6 ∷ 5 ∷ 4 ∷ []; produced = true ∷ false ∷ true ∷ false ∷ false ∷ false ∷ [] }
+    ∷ record { ordering = 1 ∷ 2 ∷ 3 ∷ 4 ∷ 5 ∷ 6 ∷ []; produced = true ∷ true ∷ false ∷ false ∷ false ∷ false ∷ false ∷ [] }
+    ∷ record { ordering = 1 ∷ 2 ∷ 3 ∷ 6 ∷ 5 ∷ 4 ∷ []; produced = true ∷ false ∷ true ∷ false ∷ false ∷ false ∷ false ∷ [] }
     -- 2.3 and 2.5: LexBFS, so BFS; not LexDFS
-    ∷ record { ordering = 1 ∷ 2 ∷ 3 ∷ 5 ∷ 4 ∷ 6 ∷ []; produced = true ∷ true ∷ true ∷ true ∷ false ∷ true ∷ [] }
+    ∷ record { ordering = 1 ∷ 2 ∷ 3 ∷ 5 ∷ 4 ∷ 6 ∷ []; produced = true ∷ true ∷ true ∷ true ∷ false ∷ true ∷ true ∷ [] }
     -- 2.5: LexDFS, so DFS; DFS, and not LexDFS
-    ∷ record { ordering = 1 ∷ 2 ∷ 3 ∷ 5 ∷ 6 ∷ 4 ∷ []; produced = true ∷ false ∷ true ∷ false ∷ true ∷ true ∷ [] }
-    ∷ record { ordering = 1 ∷ 2 ∷ 4 ∷ 5 ∷ 6 ∷ 3 ∷ []; produced = true ∷ false ∷ true ∷ false ∷ false ∷ false ∷ [] }
+    ∷ record { ordering = 1 ∷ 2 ∷ 3 ∷ 5 ∷ 6 ∷ 4 ∷ []; produced = true ∷ false ∷ true ∷ false ∷ true ∷ true ∷ true ∷ [] }
+    ∷ record { ordering = 1 ∷ 2 ∷ 4 ∷ 5 ∷ 6 ∷ 3 ∷ []; produced = true ∷ false ∷ true ∷ false ∷ false ∷ false ∷ false ∷ [] }
     ∷ []
 
 -- ---- the test, and what it says
@@ -129,7 +129,7 @@ right-out (x ∷ xs) t =
 
 computed : T (right rows)
 unfolding right answered expects rows searches from-0 sun joined edges
-    producible fullList follows free isCandidate isFront behindFront isLargest anyBelow allBelow within placed vertexOutside repeated
+    producible fullList follows free isCandidate isFront behindFront isLargest anyBelow allBelow countBelow within placed vertexOutside repeated
     among keep backward each awaits added enqueue push firstLabels relabelled lexLarger
 computed = tt
 
@@ -160,22 +160,23 @@ after-1-2-by : Search → List (List ℕ)
 after-1-2-by s = those (λ w. producible s sun 6 (from-0 w)) (map (λ w. 1 ∷ 2 ∷ w) (in-every-order (3 ∷ 4 ∷ 5 ∷ 6 ∷ [])))
 
 -- 2.5: behind 1, 2 there is one way on for LexDFS; and so there is for LexBFS
-after-1-2 : map after-1-2-by (bfs ∷ lexBfs ∷ lexDfs ∷ mns ∷ [])
+after-1-2 : map after-1-2-by (bfs ∷ lexBfs ∷ lexDfs ∷ mns ∷ mcs ∷ [])
     ≡ ((1 ∷ 2 ∷ 3 ∷ 4 ∷ 5 ∷ 6 ∷ []) ∷ (1 ∷ 2 ∷ 3 ∷ 5 ∷ 4 ∷ 6 ∷ []) ∷ [])
     ∷ ((1 ∷ 2 ∷ 3 ∷ 5 ∷ 4 ∷ 6 ∷ []) ∷ [])
     ∷ ((1 ∷ 2 ∷ 3 ∷ 5 ∷ 6 ∷ 4 ∷ []) ∷ [])
     ∷ ((1 ∷ 2 ∷ 3 ∷ 5 ∷ 4 ∷ 6 ∷ []) ∷ (1 ∷ 2 ∷ 3 ∷ 5 ∷ 6 ∷ 4 ∷ []) ∷ [])
+    ∷ ((1 ∷ 2 ∷ 3 ∷ 5 ∷ 4 ∷ 6 ∷ []) ∷ (1 ∷ 2 ∷ 3 ∷ 5 ∷ 6 ∷ 4 ∷ []) ∷ [])
     ∷ []
 unfolding after-1-2-by those in-every-order put-anywhere from-0 sun joined edges
-    producible fullList follows free isCandidate isFront behindFront isLargest anyBelow allBelow within placed vertexOutside repeated
+    producible fullList follows free isCandidate isFront behindFront isLargest anyBelow allBelow countBelow within placed vertexOutside repeated
     among keep backward each awaits added enqueue push firstLabels relabelled lexLarger
 after-1-2 = refl
 
--- how many of the 120 orderings that begin with 1 each algorithm produces: 1, 2, 4, 3, 5, 6
+-- how many of the 120 orderings that begin with 1 each algorithm produces: 1, 2, 4, 3, 5, 6, 7
 how-many : map (λ s. length (those (λ w. producible s sun 6 (from-0 w)) (map (λ w. 1 ∷ w) (in-every-order (2 ∷ 3 ∷ 4 ∷ 5 ∷ 6 ∷ []))))) searches
-    ≡ 32 ∷ 4 ∷ 18 ∷ 2 ∷ 2 ∷ 4 ∷ []
+    ≡ 32 ∷ 4 ∷ 18 ∷ 2 ∷ 2 ∷ 4 ∷ 4 ∷ []
 unfolding searches those in-every-order put-anywhere from-0 sun joined edges
-    producible fullList follows free isCandidate isFront behindFront isLargest anyBelow allBelow within placed vertexOutside repeated
+    producible fullList follows free isCandidate isFront behindFront isLargest anyBelow allBelow countBelow within placed vertexOutside repeated
     among keep backward each awaits added enqueue push firstLabels relabelled lexLarger
 how-many = refl
 
@@ -185,7 +186,7 @@ how-many = refl
 two-pieces : map (λ s. map (λ w. producible s (joined ((1, 2) ∷ [])) 3 (from-0 w)) ((1 ∷ 2 ∷ 3 ∷ []) ∷ (3 ∷ 1 ∷ 2 ∷ []) ∷ (1 ∷ 3 ∷ 2 ∷ []) ∷ [])) searches
     ≡ map (λ s. true ∷ true ∷ false ∷ []) searches
 unfolding searches from-0 joined
-    producible fullList follows free isCandidate isFront behindFront isLargest anyBelow allBelow within placed vertexOutside repeated
+    producible fullList follows free isCandidate isFront behindFront isLargest anyBelow allBelow countBelow within placed vertexOutside repeated
     among keep backward each awaits added enqueue push firstLabels relabelled lexLarger
 two-pieces = refl
 

@@ -1,4 +1,4 @@
--- What the six algorithms of document 001 have in common: data of their own, and a loop that numbers one vertex a turn.
+-- What the seven algorithms (1 to 6 of document 001, 7 for MCS) have in common: data of their own, and a loop that numbers one vertex a turn.
 --   numbered w v                 v has a number: it stands in the ordering w made so far
 --   awaits arc w v u             u is an unnumbered vertex to which v leads, once v is numbered behind w
 --   Algorithm                    a type of data, the data of a search from a start vertex, and the turns of the loop

@@ -5,7 +5,7 @@
 --   free n w v                  v is an unnumbered vertex
 --   isCandidate, isFront, isLargest   v may be picked: of the set, of the list, by its label
 --   behindFront xs              xs without its front
---   setFollower, frontFollower, labelFollower   of algorithm 1, of 2 and 4, of 3, 5 and 6
+--   setFollower, frontFollower, labelFollower   of algorithm 1, of 2 and 4, of 3, 5, 6 and 7
 --   follower s arc n            of the algorithm that is printed for s
 --   fullList n r                r has each vertex once
 --   producible s arc n r        r has each vertex once, and the algorithm printed for s can be followed along it
@@ -15,7 +15,7 @@ use mathlib.Core.List.{List, [], _∷_, _++_}
 use lib.Dec.{ltb, eqb}
 use lib.ListN.{length}
 use Rattle.bitset.specs.Below.{anyBelow}
-use Rattle.searches.specs.Kind.{Search, generic, bfs, dfs, lexBfs, lexDfs, mns}
+use Rattle.searches.specs.Kind.{Search, generic, bfs, dfs, lexBfs, lexDfs, mns, mcs}
 use Rattle.searches.specs.Ordering.{at}
 use Rattle.searches.specs.Answer.{vertexOutside, repeated}
 use Rattle.algorithms.specs.Lists.{keep, each, backward}
@@ -28,6 +28,7 @@ use Rattle.algorithms.specs.Labelling.{Labels, relabelled, labelling}
 use Rattle.algorithms.specs.LexBfsDigits.{appended}
 use Rattle.algorithms.specs.LexDfsDigits.{prepended}
 use Rattle.algorithms.specs.MaximalNeighbourhood.{neighbourSets}
+use Rattle.algorithms.specs.MaximumCardinality.{countedSets}
 use Rattle.algorithms.specs.Printed.{printed}
 
 pub record Follower (a : Algorithm) : Type 0 where
@@ -76,6 +77,7 @@ module _ (arc : ℕ → ℕ → Bool) (n : ℕ) where
   follower lexBfs = labelFollower (appended n)
   follower lexDfs = labelFollower prepended
   follower mns = labelFollower (neighbourSets n)
+  follower mcs = labelFollower (countedSets n)
 
 unfoldable pub fullList : ℕ → List ℕ → Bool
 fullList n r = eqb (length r) n && (not (vertexOutside n r n) && not (repeated r n))

@@ -1,6 +1,6 @@
--- What algorithms 3, 5 and 6 of document 001 share. Every vertex has a label, at first a blank one, the start vertex another (lines 1, 2).
--- Each turn an unnumbered vertex is picked such that no unnumbered vertex has a larger label (4); it gets the next number i (5), and
--- i goes into the label of every unnumbered vertex to which it leads (6, 7). The order in line 6 changes nothing. Which of several such
+-- What algorithms 3, 5 and 6 of document 001 and algorithm 7 share. Every vertex has a label, at first a blank one, the start vertex another
+-- (lines 1, 2). Each turn an unnumbered vertex is picked such that no unnumbered vertex has a larger label (4); it gets the next number i (5),
+-- and i goes into the label of every unnumbered vertex to which it leads (6, 7). The order in line 6 changes nothing. Which of several such
 -- vertices is picked is left open.
 -- Restart: no rule is needed. Where no unnumbered vertex is led to, all labels are blank, none is larger, and any may be picked.
 --   Labels                    a type of labels, the blank one, the start vertex's, a number put into one, and which of two is larger

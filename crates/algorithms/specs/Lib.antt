@@ -8,6 +8,8 @@ pub mod Labelling
 pub mod Digits
 pub mod LexBfsDigits
 pub mod LexDfsDigits
+pub mod NeighbourSets
 pub mod MaximalNeighbourhood
+pub mod MaximumCardinality
 pub mod Printed
 pub mod Following

@@ -1,1 +1,1 @@
-// The six algorithms of document 001 as definitions (specs/) and the theorems about them (proofs/). There is no function here.
+// The seven algorithms, six of document 001 and that of MCS, as definitions (specs/) and the theorems about them (proofs/). There is no function here.

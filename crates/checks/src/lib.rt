@@ -92,7 +92,7 @@ pub fn repeated(list: &[u8], k: usize) -> bool
 pub fn open_refusal(kind: Kind, rows: &[u64]) -> Outcome
     ensures { λ r. ⌜ refusalOf r ≡ firstRefusal (openTests (kind .0) (now (rows .entry))) ⌝ }
 {
-    if 5 < kind.0 {
+    if Kind::MCS.0 < kind.0 {
         return Outcome::Refused(Refusal::UnknownKind);
     }
     let n = rows.len();

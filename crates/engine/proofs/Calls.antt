@@ -1,7 +1,8 @@
 -- The two public calls, from what their parts answer.
+--   valid-both-ways                   every link of a valid graph goes both ways
 --   replayable                        an ordering can be replayed on empty labels
 --   fault-there, fault-judged         where the replay stops there is a violation, and the first one is judge's verdict
---   stopped-fails, ended-passes, whole-filled, filled-carried   what extend answers and leaves
+--   stopped-fails, ended-passes, along-ended, whole-filled, filled-carried   what extend answers and leaves
 --   moment-refused, moment-stopped, moment-ended   what after hands back
 --   judge-asked-*, carryOn-asked-*    the answers of the calls, from the checks' answer
 -- Assumes nothing.
@@ -11,28 +12,40 @@ use mathlib.Core.List.{List, [], _∷_, _++_, append-nil, append-assoc}
 use mathlib.Core.Option.{Option, none, some}
 use Prim.Native.Nat.{ℕ, _+_, _-_, _≤_, _<_}
 use native.Mathlib.Omega.{arith}
-use lib.Dec.{T}
+use lib.Dec.{T, not-T, T-not}
 use lib.ListN.{length, take, drop, replicate, length-drop, drop-of-length-le}
 use lib.Seq.{take-all, drop-drop}
 use Rattle.bitset.specs.Below.{anyBelow, firstBelow}
+use Rattle.bitset.proofs.Tests.{not-not, same-test}
 use Rattle.bitset.proofs.Below.{first}
 use Rattle.bitset.proofs.Passed.{some-found}
 use Rattle.searches.specs.Kind.{Search, searchOf}
 use Rattle.searches.specs.Ordering.{arcs}
 use Rattle.searches.specs.Violation.{Verdict, passes, refused, judge}
 use Rattle.searches.specs.CarryOn.{carryOn}
-use Rattle.searches.specs.Answer.{isPass, judgeTests, listTests, carryOnTests, firstRefusal, judgeAnswer, carryOnAnswer, carryOnOutput}
+use Rattle.searches.specs.Answer.{isPass, openTests, Accepts, judgeTests, listTests, carryOnTests, firstRefusal, judgeAnswer, carryOnAnswer, carryOnOutput}
 use Rattle.searches.proofs.Ordering.{ordering-fits}
 use Rattle.searches.proofs.CarryOn.{passes-greedy}
-use Rattle.searches.proofs.Refusals.{none-accepts, first-refuses}
+use Rattle.searches.proofs.Refusals.{none-accepts, first-refuses, oneWay-in}
 use Rattle.searches.proofs.Answers as answers
+use Rattle.labels.specs.Words.{Tallied}
 use Rattle.checks.proofs.Tried.{tried-first, refused-before}
-use Rattle.steps.specs.Steps.{labelsAfter, freeAfter, stopsAt, lastIn, firstIn, firstFault, fillIn, Replayable, Searchable}
+use Rattle.steps.specs.Steps.{labelsAfter, placedAfter, freeAfter, stopsAt, lastIn, firstIn, firstFault, fillIn, BothWays, Replayable, Searchable, Along}
+use Rattle.steps.proofs.Tallying.{tallied-after}
+use Rattle.steps.proofs.Growing.{along-start}
 use Rattle.engine.specs.declared.after.Moment.{Moment}
 use Rattle.engine.specs.Lists.{Judgeable, Extendable}
 use Rattle.engine.specs.Moments.{noMoment, momentOf, momentAfter}
 use Rattle.engine.proofs.Judging.{first-before, judge-fails-words, judge-passes-words}
 use Rattle.engine.proofs.Filling.{carry-fills}
+
+-- in a graph that is not refused with 5 every link goes both ways
+pub valid-both-ways : (kind : ℕ) (rows : List ℕ) → Accepts (openTests kind rows) → BothWays rows
+unfolding openTests
+valid-both-ways kind rows a u v l h = same-test (arcs rows u v) (arcs rows v u) (back u v l h) (back v u h l)
+  where
+    back : (u v : ℕ) → u < length rows → v < length rows → T (arcs rows u v) → T (arcs rows v u)
+    back u v l h t = not-not (arcs rows v u) (not-T (not (arcs rows v u)) (λ none. a .1 .1 .1 .1 .0 (oneWay-in rows u v l h t (T-not (arcs rows v u) none))))
 
 module _ (rows w : List ℕ) (k : ℕ) (x : Judgeable rows w k) where
   pub replayable : Replayable rows w k (replicate 64 0)
@@ -41,12 +54,14 @@ module _ (rows w : List ℕ) (k : ℕ) (x : Judgeable rows w k) where
     fits = ordering-fits (length rows) (x .ordering);
     small = x .small;
     vertices = x .ordering .vertices;
+    distinct = x .ordering .distinct;
+    both-ways = x .both-ways;
     empty = refl;
   }
 
   module _ (s : Search) (j : ℕ) (stops : j ≡ firstBelow k (stopsAt s rows w)) where
-    module _ (labels : List ℕ) (free : ℕ) (l : j < k) (at-labels : labels ≡ labelsAfter rows w j) (at-free : free ≡ freeAfter (length rows) w j) where
-      searchable : Searchable rows w k free j
+    module _ (labels : List ℕ) (placed free : ℕ) (l : j < k) (at-labels : labels ≡ labelsAfter rows w j) (at-placed : placed ≡ placedAfter w j) (at-free : free ≡ freeAfter (length rows) w j) where
+      searchable : Searchable rows w k labels placed free j
       searchable = record {
         long = x .ordering .long;
         inside = l;
@@ -54,9 +69,13 @@ module _ (rows w : List ℕ) (k : ℕ) (x : Judgeable rows w k) where
         small = x .small;
         vertices = x .ordering .vertices;
         unplaced = at-free;
+        tallied =
+            subst (λ (ls : List ℕ). Tallied rows ls placed) (sym at-labels)
+            (subst (λ (set : ℕ). Tallied rows (labelsAfter rows w j) set) (sym at-placed)
+            (tallied-after rows w k (x .small) (x .ordering) (x .both-ways) j (omega arith)));
       }
 
-      pub fault-there : Searchable rows w k free j × T (anyBelow j (firstIn s rows w labels free j k))
+      pub fault-there : Searchable rows w k labels placed free j × T (anyBelow j (firstIn s rows w labels free j k))
       fault-there = (
         searchable,
         subst (λ (ls : List ℕ). T (anyBelow j (firstIn s rows w ls free j k))) (sym at-labels)
@@ -83,6 +102,21 @@ module _ (rows w : List ℕ) (k : ℕ) (x : Judgeable rows w k) where
 
     pub ended-passes : k ≤ j → judge s (arcs rows) (length rows) w k ≡ passes
     ended-passes l = judge-passes-words s rows w k (x .small) (x .ordering) (omega arith)
+
+  -- where the replay came to the end, its words are those after all k vertices
+  pub along-ended : (s : Search) (count : ℕ) → count ≡ firstBelow k (stopsAt s rows w) → k ≤ count → {labels : List ℕ} {placed free : ℕ}
+      → labels ≡ labelsAfter rows w count → placed ≡ placedAfter w count → free ≡ freeAfter (length rows) w count → Along rows k labels placed free
+  along-ended s count stops ended at-labels at-placed at-free =
+      let whole : count ≡ k = omega (arith, stops, first k (stopsAt s rows w) .within) in
+      let a = along-start rows w k (x .ordering) in
+      record {
+        walk = a .walk;
+        long = a .long;
+        ordering = a .ordering;
+        labelled = at-labels ∙ ap (λ (j : ℕ). labelsAfter rows w j) whole ∙ a .labelled;
+        set = at-placed ∙ ap (λ (j : ℕ). placedAfter w j) whole ∙ a .set;
+        unplaced = at-free ∙ ap (λ (j : ℕ). freeAfter (length rows) w j) whole ∙ a .unplaced;
+      }
 
 -- ---- the output list
 
@@ -128,7 +162,7 @@ module _ (kind : ℕ) (rows w : List ℕ) where
   judge-asked-accepted e =
       let a = none-accepts (judgeTests kind rows w) (sym e) in
       let x = answers.accepted-ordering kind rows w a in
-      (record { small = answers.valid-small kind rows (x .0); ordering = x .1 }, sym (answers.judge-accepted kind rows w a))
+      (record { small = answers.valid-small kind rows (x .0); both-ways = valid-both-ways kind rows (x .0); ordering = x .1 }, sym (answers.judge-accepted kind rows w a))
 
   -- ---- what `after` hands back
 
@@ -148,23 +182,24 @@ module _ (kind : ℕ) (rows w : List ℕ) where
     pub moment-stopped : {r : Moment} → r ≡ noMoment → count < length w → r ≡ momentAfter kind rows w
     moment-stopped is l =
         moment-none is
-        (sym (stopped-fails rows w (length w) (asked .0) (searchOf kind) count stops (labelsAfter rows w count) (freeAfter (length rows) w count) l refl refl)
+        (sym (stopped-fails rows w (length w) (asked .0) (searchOf kind) count stops (labelsAfter rows w count) (placedAfter w count) (freeAfter (length rows) w count) l refl refl refl)
         ∙ ap isPass (asked .1))
 
-    pub moment-ended : {free : ℕ} {labels : List ℕ} → length w ≤ count → free ≡ freeAfter (length rows) w count → labels ≡ labelsAfter rows w count
-        → record { passes = true; free = free; labels = labels } ≡ momentAfter kind rows w
+    pub moment-ended : {placed free : ℕ} {labels : List ℕ} → length w ≤ count → placed ≡ placedAfter w count → free ≡ freeAfter (length rows) w count
+        → labels ≡ labelsAfter rows w count → record { passes = true; placed = placed; free = free; labels = labels } ≡ momentAfter kind rows w
     unfolding momentAfter momentOf isPass
-    moment-ended l at-free at-labels =
+    moment-ended {placed} {free} {labels} l at-placed at-free at-labels =
         let whole : count ≡ length w = omega (arith, stops, first (length w) (stopsAt (searchOf kind) rows w) .within) in
         let passing : true ≡ isPass (judgeAnswer kind rows w) =
         ap isPass (sym (ended-passes rows w (length w) (asked .0) (searchOf kind) count stops l) ∙ asked .1)
         in
-        ap₂ (λ (f : ℕ) (ls : List ℕ). handed f ls) (at-free ∙ ap (λ (j : ℕ). freeAfter (length rows) w j) whole)
+        ap (λ (p : ℕ). handed p free labels) (at-placed ∙ ap (λ (j : ℕ). placedAfter w j) whole)
+        ∙ ap₂ (λ (f : ℕ) (ls : List ℕ). handed (placedAfter w (length w)) f ls) (at-free ∙ ap (λ (j : ℕ). freeAfter (length rows) w j) whole)
         (at-labels ∙ ap (λ (j : ℕ). labelsAfter rows w j) whole)
         ∙ ap (λ (b : Bool). cond b (momentOf rows w) noMoment) passing
       where
-        handed : ℕ → List ℕ → Moment
-        handed f ls = record { passes = true; free = f; labels = ls }
+        handed : ℕ → ℕ → List ℕ → Moment
+        handed p f ls = record { passes = true; placed = p; free = f; labels = ls }
 
 module _ (kind : ℕ) (rows t out : List ℕ) (k : ℕ) where
   abbrev verdict : Verdict
@@ -180,7 +215,7 @@ module _ (kind : ℕ) (rows t out : List ℕ) (k : ℕ) where
   pub carryOn-asked-accepted : none ≡ firstRefusal (listTests kind rows t out k) → Extendable rows t out k
   carryOn-asked-accepted e =
       let x = answers.accepted-lists kind rows t out k (none-accepts (listTests kind rows t out k) (sym e)) in
-      record { start = record { small = answers.valid-small kind rows (x .valid); ordering = x .start }; room = x .room; names = x .tie-break }
+      record { start = record { small = answers.valid-small kind rows (x .valid); both-ways = valid-both-ways kind rows (x .valid); ordering = x .start }; room = x .room; names = x .tie-break }
 
   -- the last test is on the start
   pub carryOn-asked-last : none ≡ firstRefusal (listTests kind rows t out k)

@@ -13,22 +13,22 @@ use Prim.Native.Nat.{ℕ, suc, _+_, _≤_, _<_}
 use native.Mathlib.Omega.{arith}
 use lib.Dec.{T, ltb, eqb, ltb→lt, lt→ltb, not-T, T-not}
 use lib.ListN.{length, getD}
-use Rattle.bitset.specs.Below.{anyBelow, firstBelow}
+use Rattle.bitset.specs.Below.{firstBelow}
 use Rattle.bitset.specs.Word.{member}
-use Rattle.bitset.proofs.Tests.{eqb-comm, and-out, not-not, same-test, is-true, cond-yes, cond-no}
-use Rattle.bitset.proofs.Below.{any-out, any-fewer, any-same, first, first-found, first-same as first-same-test}
+use Rattle.bitset.proofs.Tests.{eqb-comm, not-not, same-test, is-true, cond-yes, cond-no}
+use Rattle.bitset.proofs.Below.{any-out, any-same, first, first-found, first-same as first-same-test}
 use Rattle.bitset.proofs.Word as word
 use Rattle.searches.specs.Kind.{Search}
 use Rattle.searches.specs.Ordering.{arcs, at, placed, IsOrdering}
 use Rattle.searches.specs.Label.{label}
 use Rattle.searches.specs.Run.{offered}
-use Rattle.searches.specs.Violation.{excuses, violates, Verdict, passes, fails, third, isLast, isFirst, isMiddle, judge}
+use Rattle.searches.specs.Violation.{condition, meets, violates, Verdict, passes, fails, third, isLast, isFirst, isMiddle, judge}
 use Rattle.searches.proofs.Ordering.{ordering-unplaced, ordering-fits}
 use Rattle.searches.proofs.Judge.{third-vertex, middle-met as middle-found}
 use Rattle.searches.proofs.Violations.{violates-out, violation-refutes, ViolatedAt, unoffered-violation}
 use Rattle.labels.specs.Words.{unexcusedIn, openIn}
 use Rattle.steps.specs.Steps.{labelsAfter, freeAfter, stopsAt, violatesIn, lastIn, firstIn}
-use Rattle.steps.proofs.Representation.{cut-same, cut-below, free-unplaced, label-members, open-offered}
+use Rattle.steps.proofs.Representation.{meets-cut, free-unplaced, label-members, open-offered}
 
 -- ---- the middle of a violation
 
@@ -87,17 +87,11 @@ module _ (s : Search) (rows w : List ℕ) (k : ℕ) (small : length rows ≤ 64)
 
   pub unexcused-same : (j i c b : ℕ) → j ≤ k → c < n → b < n
       → unexcusedIn s i (getD (labels j) c 0) (getD (labels j) b 0)
-      ≡ not (anyBelow j (λ d. arc (at w d) b && excuses s i d (arc (at w d) c)))
-  unfolding unexcusedIn label
+      ≡ meets (condition s i) j (label arc w c) (label arc w b)
+  unfolding unexcusedIn
   unexcused-same j i c b h c-vertex b-vertex =
-      let c-word = member (getD (labels j) c 0) in
-      let b-word = member (getD (labels j) b 0) in
-      let c-cut = label-members rows w k small o j h c c-vertex in
-      let b-cut = label-members rows w k small o j h b b-vertex in
-      ap not (any-fewer j 64 (omega (arith, ordering-fits n o))
-      (λ d. b-word d && excuses s i d (c-word d)) (λ d. arc (at w d) b && excuses s i d (arc (at w d) c))
-      (λ d l. ap₂ (λ (x y : Bool). x && excuses s i d y) (cut-same j b-word (label arc w b) b-cut d l) (cut-same j c-word (label arc w c) c-cut d l))
-      (λ d t. cut-below j b-word (label arc w b) b-cut d (and-out (b-word d) (excuses s i d (c-word d)) t .0)))
+      meets-cut j 64 (member (getD (labels j) c 0)) (member (getD (labels j) b 0)) (label arc w c) (label arc w b) (omega (arith, ordering-fits n o))
+      (label-members rows w k small o j h c c-vertex) (label-members rows w k small o j h b b-vertex) (condition s i)
 
   pub violates-same : (j i c : ℕ) → j < k → c < n → violatesIn s rows w (labels j) (free j) j i c ≡ violates s arc w i j c
   unfolding violatesIn violates

@@ -1,12 +1,14 @@
-// The unplaced vertices and the labels after an ordering, for a caller that continues it.
+// The placed and the unplaced vertices and the labels after an ordering, for a caller that continues it.
 use searches::Kind;
 use searches::Outcome;
 ghost use mathlib.Core.Path.{_≡_};
 ghost use Rattle.engine.specs.Moments.{noMoment, momentAfter};
 
-// Whether judge passes an ordering, and the unplaced vertices and the labels after it; where it does not pass, no vertex and empty labels.
+// Whether judge passes an ordering, and the placed and the unplaced vertices and the labels after it; where it does not pass, no vertex and
+// empty labels.
 pub struct Moment {
     pub passes: bool,
+    pub placed: u64,
     pub free: u64,
     pub labels: [u64; 64],
 }
@@ -18,6 +20,7 @@ pub fn no_moment() -> Moment
     let labels = [0u64; 64];
     Moment {
         passes: false,
+        placed: 0,
         free: 0,
         labels,
     }
@@ -39,6 +42,7 @@ pub fn after(kind: Kind, rows: &[u64], ordering: &[u8]) -> Moment
     }
     Moment {
         passes: true,
+        placed: placed.set,
         free: placed.free,
         labels,
     }

@@ -41,6 +41,7 @@ fn verdict(kind: Kind, rows: &[u64], ordering: &[u8]) -> Judgement
     let k = ordering.len();
     let placed = steps::replay::replay(kind, rows, ordering, k, &mut labels);
     let j = placed.count;
+    let set = placed.set;
     let free = placed.free;
     if j < k {
         return Judgement::Fails(steps::violation::first_violation(
@@ -49,6 +50,7 @@ fn verdict(kind: Kind, rows: &[u64], ordering: &[u8]) -> Judgement
             ordering,
             k,
             &labels,
+            set,
             free,
             Position(j),
         ));
@@ -86,6 +88,7 @@ fn extend(kind: Kind, rows: &[u64], tie_break: &[u8], output: &mut [u8], k: usiz
     if placed.count < k {
         return Outcome::Refused(Refusal::StartFails);
     }
+    let set = placed.set;
     let free = placed.free;
     let reached = placed.reached;
     steps::fill::fill(
@@ -95,6 +98,7 @@ fn extend(kind: Kind, rows: &[u64], tie_break: &[u8], output: &mut [u8], k: usiz
         &mut output[k..],
         k,
         &mut labels,
+        set,
         free,
         reached,
     );

@@ -32,7 +32,7 @@ left-over m out = go (eqb (m % 8) 0) (eqb→eq (m % 8) 0) out
 
 module _ (kind : ℕ) (plan : List ℕ) where
   record TooMany : Type 0 where
-    pub known : T (ltb 5 kind) → ⊥
+    pub known : T (ltb 6 kind) → ⊥
     pub asked : firstRefusal (planTests kind plan) ≡ none
     pub many : T (ltb 64 (length (planRows plan)))
 

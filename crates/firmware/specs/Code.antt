@@ -27,7 +27,7 @@ numberOf none = 0
 numberOf (some r) = r
 
 unfoldable pub planTests : ℕ → List ℕ → List (ℕ × Bool)
-planTests kind plan = (1, ltb 5 kind) ∷ (2, not (eqb (length plan % 8) 0)) ∷ []
+planTests kind plan = (1, ltb 6 kind) ∷ (2, not (eqb (length plan % 8) 0)) ∷ []
 
 unfoldable pub readTests : ℕ → List ℕ → List (ℕ × Bool)
 readTests kind plan = planTests kind plan ++ (2, ltb 512 (length plan)) ∷ []

@@ -13,7 +13,7 @@ ghost use Rattle.firmware.specs.Code.{readTests};
 pub fn refusal(kind: u8, plan: &[u8]) -> Outcome
     ensures { λ r. ⌜ refusalOf r ≡ firstRefusal (readTests kind (now (plan .entry))) ⌝ }
 {
-    if Kind::MNS.0 < kind {
+    if Kind::MCS.0 < kind {
         return Outcome::Refused(Refusal::UnknownKind);
     }
     if plan.len() % 8 != 0 {

@@ -7,7 +7,7 @@ use libc::STDOUT_FILENO;
 fn main() {
     let mut input = [0u8; 18478];
     let count = io::read_full(STDIN_FILENO, &mut input);
-    let mut output = [0u8; 126];
+    let mut output = [0u8; 147];
     let judged = judgement::judge_input(&input, count, &mut output);
     let length = judged.length;
     let line = judged.line;

@@ -1,5 +1,5 @@
 -- The judgement, written line by line.
---   judgement-short        a judgement has at most 126 bytes
+--   judgement-short        a judgement has at most 147 bytes
 --   Judging out₀ rows w out i j      the lines of the kinds below j are written, up to i;   judging-start, judging-next
 -- Assumes nothing.
 use Prim.Native.Nat.{ℕ, zero, suc, _+_, _*_, _≤_, _<_}
@@ -25,7 +25,7 @@ line-short kind (fails a b c) = omega arith
 line-short kind (refused r) = omega arith
 
 pub record Judging (out₀ rows w out : List ℕ) (i j : ℕ) : Type 0 where
-  pub upto : j ≤ 6
+  pub upto : j ≤ 7
   pub short : i ≤ 21 * j
   pub place : i ≡ length (judgedLines rows w j)
   pub written : out ≡ sets out₀ 0 (judgedLines rows w j)
@@ -36,11 +36,11 @@ module _ (out₀ rows w : List ℕ) where
   judging-start = record { upto = omega arith; short = omega arith; place = refl; written = refl }
 
   -- there is room for a line
-  pub judging-room : {out : List ℕ} {i j : ℕ} → Judging out₀ rows w out i j → j < 6 → 126 ≤ length out₀ → (i < 150) × (i + 21 ≤ length out)
+  pub judging-room : {out : List ℕ} {i j : ℕ} → Judging out₀ rows w out i j → j < 7 → 147 ≤ length out₀ → (i < 150) × (i + 21 ≤ length out)
   judging-room {out} {i} {j} r l long =
       (omega (arith, r .short), omega (arith, r .short, ap length (r .written), length-sets out₀ 0 (judgedLines rows w j)))
 
-  pub judging-next : {out : List ℕ} {i j : ℕ} (out′ : List ℕ) {i′ : ℕ} {v : Verdict} → Judging out₀ rows w out i j → j < 6 → v ≡ judgeAnswer j rows w
+  pub judging-next : {out : List ℕ} {i j : ℕ} (out′ : List ℕ) {i′ : ℕ} {v : Verdict} → Judging out₀ rows w out i j → j < 7 → v ≡ judgeAnswer j rows w
       → out′ ≡ sets out i (judgedLine j v) → i′ ≡ i + length (judgedLine j v) → Judging out₀ rows w out′ i′ (j + 1)
   unfolding judgedLines
   judging-next {out} {i} {j} out′ {i′} {v} r l is at-out at-i =
@@ -65,10 +65,10 @@ lines-short rows w zero = omega arith
 lines-short rows w (suc j) =
     omega (arith, length-append (judgedLines rows w j) (judgedLine j (judgeAnswer j rows w)), lines-short rows w j, line-short j (judgeAnswer j rows w))
 
-pub judgement-short : (b : List ℕ) → length (judgement b) ≤ 126
+pub judgement-short : (b : List ℕ) → length (judgement b) ≤ 147
 unfolding judgement judgedUnless line fields field
 judgement-short b = go (readAnswer b)
   where
-    go : (answer : Option ℕ) → length (judgedUnless answer b) ≤ 126
-    go none = lines-short (rowsOf b) (walkOf b) 6
+    go : (answer : Option ℕ) → length (judgedUnless answer b) ≤ 147
+    go none = lines-short (rowsOf b) (walkOf b) 7
     go (some r) = omega arith

@@ -1,7 +1,7 @@
 -- The judgement of a sheet, as it is printed.
 --   judgedLine kind v         the line of one kind: kind and 1 for a pass, or kind, 0 and the triple
 --   judgedLines rows w j      the lines of the kinds below j
---   judgedUnless answer b, judgement b    the lines of all six kinds, or the refusal's number alone                 [01: the program judge-sheet]
+--   judgedUnless answer b, judgement b    the lines of all seven kinds, or the refusal's number alone               [01: the program judge-sheet; 02: K1]
 --   room                      as many bytes as a judgement can have
 --   judgementIn b out, judgementLength b out   what an output list then holds, from its front on, and how much of it is the judgement;
 --                             as it was, and 0, where it has not that room
@@ -30,14 +30,14 @@ judgedLines rows w zero = []
 judgedLines rows w (suc j) = judgedLines rows w j ++ judgedLine j (judgeAnswer j rows w)
 
 unfoldable pub judgedUnless : Option ℕ → List ℕ → List ℕ
-judgedUnless none b = judgedLines (rowsOf b) (walkOf b) 6
+judgedUnless none b = judgedLines (rowsOf b) (walkOf b) 7
 judgedUnless (some r) b = line (r ∷ [])
 
 unfoldable pub judgement : List ℕ → List ℕ
 judgement b = judgedUnless (readAnswer b) b
 
 abbrev pub room : ℕ
-room = 126
+room = 147
 
 unfoldable pub judgementIn : List ℕ → List ℕ → List ℕ
 judgementIn b out = cond (ltb (length out) room) out (sets out 0 (judgement b))

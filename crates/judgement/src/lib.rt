@@ -38,14 +38,14 @@ fn judged_line(output: &mut [u8], at: usize, kind: u8, judgement: Judgement) -> 
     }
 }
 
-// Writes the lines of the six kinds, from the front on, and answers how long they are.
+// Writes the lines of the seven kinds, from the front on, and answers how long they are.
 fn judged_lines(output: &mut [u8], rows: &[u64], ordering: &[u8]) -> usize
-    requires { ⌜ 126 ≤ length (now output) ⌝ }
-    ensures output { λ r. ⌜ now (output .exit) ≡ sets (now (output .entry)) 0 (judgedLines (now (rows .entry)) (now (ordering .entry)) 6) ⌝ }
-    ensures at { λ r. ⌜ r ≡ length (judgedLines (now (rows .entry)) (now (ordering .entry)) 6) ⌝ }
+    requires { ⌜ 147 ≤ length (now output) ⌝ }
+    ensures output { λ r. ⌜ now (output .exit) ≡ sets (now (output .entry)) 0 (judgedLines (now (rows .entry)) (now (ordering .entry)) 7) ⌝ }
+    ensures at { λ r. ⌜ r ≡ length (judgedLines (now (rows .entry)) (now (ordering .entry)) 7) ⌝ }
 {
     let mut at = 0;
-    for kind in 0u8..6 {
+    for kind in 0u8..7 {
         let judgement = engine::judge(Kind(kind), rows, ordering);
         at = judged_line(output, at, kind, judgement);
     }
@@ -60,7 +60,7 @@ pub struct Judged {
 
 // Writes the judgement of a sheet to the front of `output`, which has room for it.
 fn write_judgement(sheet: &[u8], output: &mut [u8]) -> Judged
-    requires { ⌜ 126 ≤ length (now output) ⌝ }
+    requires { ⌜ 147 ≤ length (now output) ⌝ }
     ensures output { λ r. ⌜ now (output .exit) ≡ sets (now (output .entry)) 0 (judgement (now (sheet .entry))) ⌝ }
     ensures length { λ r. ⌜ r .length ≡ length (judgement (now (sheet .entry))) ⌝ }
     ensures line { λ r. ⌜ r .line ≡ stoppedIn (now (sheet .entry)) ⌝ }
@@ -81,13 +81,13 @@ fn write_judgement(sheet: &[u8], output: &mut [u8]) -> Judged
     Judged { length, line }
 }
 
-// Writes the judgement of a sheet, any bytes, to the front of `output` and answers its length. An `output` of less than 126 bytes stays as
+// Writes the judgement of a sheet, any bytes, to the front of `output` and answers its length. An `output` of less than 147 bytes stays as
 // it is, and the answer is 0.
 pub fn judge(sheet: &[u8], output: &mut [u8]) -> usize
     ensures output { λ r. ⌜ now (output .exit) ≡ judgementIn (now (sheet .entry)) (now (output .entry)) ⌝ }
     ensures length { λ r. ⌜ r ≡ judgementLength (now (sheet .entry)) (now (output .entry)) ⌝ }
 {
-    if output.len() < 126 {
+    if output.len() < 147 {
         return 0;
     }
     let judged = write_judgement(sheet, output);
@@ -96,7 +96,7 @@ pub fn judge(sheet: &[u8], output: &mut [u8]) -> usize
 
 // The judgement of the first `count` bytes; of all where there are no more.
 fn judge_first(bytes: &[u8], count: usize, output: &mut [u8]) -> Judged
-    requires { ⌜ 126 ≤ length (now output) ⌝ }
+    requires { ⌜ 147 ≤ length (now output) ⌝ }
     ensures output { λ r. ⌜ now (output .exit) ≡ sets (now (output .entry)) 0 (judgement (take count (now (bytes .entry)))) ⌝ }
     ensures length { λ r. ⌜ r .length ≡ length (judgement (take count (now (bytes .entry)))) ⌝ }
     ensures line { λ r. ⌜ r .line ≡ stoppedIn (take count (now (bytes .entry))) ⌝ }
@@ -109,7 +109,7 @@ fn judge_first(bytes: &[u8], count: usize, output: &mut [u8]) -> Judged
 
 // Judges an input of any length that was read into `input`, as much as there is room for: no valid sheet is longer. The first `count` bytes of
 // `input` are what was read. The judgement is that of the whole input, and is written to the front of `output`.
-pub fn judge_input(input: &[u8; 18478], count: usize, output: &mut [u8; 126]) -> Judged
+pub fn judge_input(input: &[u8; 18478], count: usize, output: &mut [u8; 147]) -> Judged
     ensures output { λ r. ⌜ ((b : List ℕ) → ReadInto (now (input .entry)) count b → now (output .exit) ≡ sets (now (output .entry)) 0 (judgement b)) ⌝ }
     ensures length { λ r. ⌜ ((b : List ℕ) → ReadInto (now (input .entry)) count b → r .length ≡ length (judgement b)) ⌝ }
     ensures line { λ r. ⌜ ((b : List ℕ) → ReadInto (now (input .entry)) count b → r .line ≡ stoppedIn b) ⌝ }

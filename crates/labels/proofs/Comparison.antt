@@ -1,9 +1,9 @@
 -- The comparison of two labels that are kept as words, search by search, and the test for an excuse.
 --   empty-word                              a word has no member exactly when it is 0
 --   upper-above, upper-least                what upperBound is
---   bfs-words, dfs-words, lexBfs-words, generic-words   what the code computes is what aheadIn says
+--   bfs-words, dfs-words, .., generic-words   what the code computes is what aheadIn says
 --   unexcused-*                             likewise for unexcusedIn
---   of-kind, searchOf-other, searchOf-mns   from a search to its kind byte
+--   of-kind, searchOf-other, searchOf-mns   from a kind byte to its search
 -- Assumes nothing.
 use mathlib.Core.Path.{_≡_, refl, sym, ap, ap₂, _∙_, subst}
 use mathlib.Core.Bool.{Bool, true, false, cond, not, _&&_, and-comm}
@@ -17,9 +17,9 @@ use Rattle.bitset.proofs.Tests.{and-in, and-out, and-true, decided, same-test, 
 use Rattle.bitset.proofs.Below.{Some, any-out, any-in, any-at, any-same, first, first-earliest, last}
 use Rattle.bitset.proofs.Sets.{within-in, within-out}
 use Rattle.bitset.proofs.Word as word
-use Rattle.searches.specs.Kind.{Search, generic, bfs, dfs, lexBfs, lexDfs, mns, searchOf}
+use Rattle.searches.specs.Kind.{Search, generic, bfs, dfs, lexBfs, lexDfs, mns, mcs, searchOf}
 use Rattle.searches.specs.Label.{empty, settled, outranks}
-use Rattle.searches.specs.Violation.{excuses}
+use Rattle.searches.specs.Violation.{condition, meets}
 use Rattle.searches.proofs.Reason.{Reason, outranks→reason, reason→outranks}
 use Rattle.labels.specs.Words.{aheadIn, unexcusedIn}
 
@@ -70,7 +70,7 @@ upper-last x some = cond-yes (anyBelow 64 (member x)) (suc (lastBelow 64 (member
 
 module _ (c b : ℕ) where
   pub bfs-words : ltb (firstBelow 64 (member c)) (firstBelow 64 (member b)) ≡ aheadIn bfs c b
-  unfolding aheadIn excuses
+  unfolding aheadIn condition
   bfs-words =
       same-test (ltb p q) (outranks bfs 64 (member c) (member b)) (λ t. reason→outranks 64 (member c) (member b) bfs (forth (ltb→lt p q t)))
       (λ t. lt→ltb p q (back (outranks→reason 64 (member c) (member b) bfs t)))
@@ -81,7 +81,7 @@ module _ (c b : ℕ) where
       q : ℕ
       q = firstBelow 64 (member b)
 
-      forth : p < q → Reason (excuses bfs) 64 (member c) (member b)
+      forth : p < q → Reason (condition bfs) 64 (member c) (member b)
       forth l =
           let h : p < 64 = omega (arith, first 64 (member b) .within) in
           record {
@@ -92,7 +92,7 @@ module _ (c b : ℕ) where
             unexcused = λ d i x y. first 64 (member b) .least d (omega (arith, ltb→lt d p y)) x;
           }
 
-      back : Reason (excuses bfs) 64 (member c) (member b) → p < q
+      back : Reason (condition bfs) 64 (member c) (member b) → p < q
       back r = go (three-ways (r .position) q)
         where
           before : p ≤ r .position
@@ -106,13 +106,13 @@ module _ (c b : ℕ) where
               absurd (r .unexcused q i (first 64 (member b) .holds i) (lt→ltb q (r .position) l))
 
   pub dfs-words : ltb (upperBound b) (upperBound c) ≡ aheadIn dfs c b
-  unfolding aheadIn excuses
+  unfolding aheadIn condition
   dfs-words =
       same-test (ltb (upperBound b) (upperBound c)) (outranks dfs 64 (member c) (member b))
       (λ t. reason→outranks 64 (member c) (member b) dfs (forth (ltb→lt (upperBound b) (upperBound c) t)))
       (λ t. lt→ltb (upperBound b) (upperBound c) (back (outranks→reason 64 (member c) (member b) dfs t)))
     where
-      forth : upperBound b < upperBound c → Reason (excuses dfs) 64 (member c) (member b)
+      forth : upperBound b < upperBound c → Reason (condition dfs) 64 (member c) (member b)
       forth l =
           let some = upper-some c (omega arith) in
           let top = last some in
@@ -125,7 +125,7 @@ module _ (c b : ℕ) where
             unexcused = λ d i x y. omega (arith, e, upper-above b d i x, ltb→lt (lastBelow 64 (member c)) d y);
           }
 
-      back : Reason (excuses dfs) 64 (member c) (member b) → upperBound b < upperBound c
+      back : Reason (condition dfs) 64 (member c) (member b) → upperBound b < upperBound c
       back r = omega (arith, upper-least b (r .position) under, upper-above c (r .position) (r .below) (r .ours))
         where
           under : (d : ℕ) → d < 64 → T (member b d) → d < r .position
@@ -172,15 +172,16 @@ module _ (c b : ℕ) where
 pub of-kind : {kind k : ℕ} {r : Bool} (f : Search → Bool) → kind ≡ k → r ≡ f (searchOf k) → r ≡ f (searchOf kind)
 of-kind {kind} {k} {r} f e h = subst (λ (x : ℕ). r ≡ f (searchOf x)) (sym e) h
 
-pub searchOf-other : (kind : ℕ) → kind ≢ 1 → kind ≢ 2 → kind ≢ 3 → kind ≢ 4 → kind ≢ 5 → searchOf kind ≡ generic
+pub searchOf-other : (kind : ℕ) → kind ≢ 1 → kind ≢ 2 → kind ≢ 3 → kind ≢ 4 → kind ≢ 5 → kind ≢ 6 → searchOf kind ≡ generic
 unfolding searchOf
-searchOf-other zero a b c d e = refl
-searchOf-other (suc zero) a b c d e = absurd (a refl)
-searchOf-other (suc (suc zero)) a b c d e = absurd (b refl)
-searchOf-other (suc (suc (suc zero))) a b c d e = absurd (c refl)
-searchOf-other (suc (suc (suc (suc zero)))) a b c d e = absurd (d refl)
-searchOf-other (suc (suc (suc (suc (suc zero))))) a b c d e = absurd (e refl)
-searchOf-other (suc (suc (suc (suc (suc (suc more)))))) a b c d e = refl
+searchOf-other zero a b c d e f = refl
+searchOf-other (suc zero) a b c d e f = absurd (a refl)
+searchOf-other (suc (suc zero)) a b c d e f = absurd (b refl)
+searchOf-other (suc (suc (suc zero))) a b c d e f = absurd (c refl)
+searchOf-other (suc (suc (suc (suc zero)))) a b c d e f = absurd (d refl)
+searchOf-other (suc (suc (suc (suc (suc zero))))) a b c d e f = absurd (e refl)
+searchOf-other (suc (suc (suc (suc (suc (suc zero)))))) a b c d e f = absurd (f refl)
+searchOf-other (suc (suc (suc (suc (suc (suc (suc more))))))) a b c d e f = refl
 
 -- no other byte names MNS
 pub searchOf-mns : (kind : ℕ) → kind ≢ 5 → searchOf kind ≢ mns
@@ -194,6 +195,7 @@ searchOf-mns kind other same = go kind other (subst (λ (s : Search). T (isMns s
     isMns lexBfs = false
     isMns lexDfs = false
     isMns mns = true
+    isMns mcs = false
 
     go : (k : ℕ) → k ≢ 5 → T (isMns (searchOf k)) → ⊥
     go zero o t = t
@@ -202,7 +204,8 @@ searchOf-mns kind other same = go kind other (subst (λ (s : Search). T (isMns s
     go (suc (suc (suc zero))) o t = t
     go (suc (suc (suc (suc zero)))) o t = t
     go (suc (suc (suc (suc (suc zero))))) o t = o refl
-    go (suc (suc (suc (suc (suc (suc more)))))) o t = t
+    go (suc (suc (suc (suc (suc (suc zero)))))) o t = t
+    go (suc (suc (suc (suc (suc (suc (suc more))))))) o t = t
 
 -- ---- who is excused
 
@@ -213,11 +216,11 @@ module _ (i c b : ℕ) where
   none-such x e h r s = s ∙ ap not (any-same 64 x (λ d. member b d && e d) h)
 
   pub unexcused-generic : b < 2 ^ 64 → eqb b 0 ≡ unexcusedIn generic i c b
-  unfolding unexcusedIn excuses empty
+  unfolding unexcusedIn condition meets empty
   unexcused-generic hb = none-such (member b) (λ d. true) (λ d l. and-true (member b d)) (eqb b 0) (sym (empty-word b hb))
 
   pub unexcused-mns : within 64 (member b) (member c) ≡ unexcusedIn mns i c b
-  unfolding unexcusedIn excuses
+  unfolding unexcusedIn condition meets
   unexcused-mns = same-test (within 64 (member b) (member c)) (not (anyBelow 64 outside)) forth back
     where
       outside : ℕ → Bool
@@ -263,11 +266,11 @@ none-sooner i x l = same-test (leb i p) (not (anyBelow 64 low)) forth back
 
 module _ (i c b : ℕ) where
   pub unexcused-bfs : i < 64 → leb i (firstBelow 64 (member b)) ≡ unexcusedIn bfs i c b
-  unfolding unexcusedIn excuses
+  unfolding unexcusedIn condition meets
   unexcused-bfs l = none-sooner i b l
 
   pub unexcused-lexBfs : i < 64 → leb i (firstBelow 64 (member (difference b c))) ≡ unexcusedIn lexBfs i c b
-  unfolding unexcusedIn excuses
+  unfolding unexcusedIn condition meets
   unexcused-lexBfs l =
       none-such i c b (λ d. member (difference b c) d && ltb d i) (λ d. ltb d i && not (member c d))
       (λ d _. ap (λ (x : Bool). x && ltb d i) (word.member-difference b c d) ∙ turned (member b d) (not (member c d)) (ltb d i))
@@ -281,11 +284,11 @@ module _ (i c b : ℕ) where
       turned false y z = refl
 
   pub unexcused-dfs : not (anyBelow 64 (fromUp (suc i) b)) ≡ unexcusedIn dfs i c b
-  unfolding unexcusedIn excuses fromUp
+  unfolding unexcusedIn condition meets fromUp
   unexcused-dfs = none-such i c b (λ d. leb (suc i) d && member b d) (λ d. ltb i d) (λ d _. and-comm (leb (suc i) d) (member b d)) (not (anyBelow 64 (fromUp (suc i) b))) refl
 
   pub unexcused-lexDfs : not (anyBelow 64 (fromUp (suc i) (difference b c))) ≡ unexcusedIn lexDfs i c b
-  unfolding unexcusedIn excuses fromUp
+  unfolding unexcusedIn condition meets fromUp
   unexcused-lexDfs =
       none-such i c b (λ d. leb (suc i) d && member (difference b c) d) (λ d. ltb i d && not (member c d))
       (λ d _. ap (λ (x : Bool). leb (suc i) d && x) (word.member-difference b c d) ∙ turned (member b d) (not (member c d)) (leb (suc i) d))

@@ -1,4 +1,5 @@
 pub mod Comparison
+pub mod Profiles
 pub mod Scan
 pub mod Spreading
 pub mod Reached

@@ -1,6 +1,10 @@
 -- What the code computes on labels that are kept as words. `labels` is the list of the 64 words, `free` the set of the unplaced vertices.
+--   tally rows placed v           how many of `placed` are in v's row: ones counted in row AND placed mask          [01: the form for MCS]
+--   Tallied rows labels placed    that is for every vertex how many positions its label holds
+--   countIn s label               how many positions a label holds, for MCS; 0 for the other searches, which do not count
+--   profileOf s label             what a comparison looks at, of a vertex with this label
 --   aheadIn s c b                 label c is ahead of label b
---   unexcusedIn s i c b           no position of b's excuses position i against c
+--   unexcusedIn s i c b           nothing in b's label, nor its size, excuses position i against c's
 --   joinedIn row p v label        v's label, with p put in where v is in row
 --   spreadTo row p i labels       the labels, with p put into those of the vertices below i that are in row
 --   beatenIn s labels free mine   a free vertex has a label ahead of `mine`
@@ -14,18 +18,37 @@ use mathlib.Core.Bool.{Bool, cond, not, _&&_}
 use mathlib.Core.List.{List}
 use lib.Dec.{T}
 use lib.ListN.{length, getD, set}
-use Rattle.bitset.specs.Below.{anyBelow, lastBelow}
-use Rattle.bitset.specs.Word.{member, inserted}
-use Rattle.searches.specs.Kind.{Search}
+use Rattle.bitset.specs.Below.{anyBelow, lastBelow, countBelow}
+use Rattle.bitset.specs.Word.{member, inserted, common}
+use Rattle.searches.specs.Kind.{Search, generic, bfs, dfs, lexBfs, lexDfs, mns, mcs}
 use Rattle.searches.specs.Ordering.{at}
 use Rattle.searches.specs.Label.{outranks}
-use Rattle.searches.specs.Violation.{excuses}
+use Rattle.searches.specs.Violation.{condition, meets}
+use Rattle.labels.specs.declared.profile.Profile.{Profile}
+
+unfoldable pub tally : List ℕ → ℕ → ℕ → ℕ
+tally rows placed v = countBelow 64 (member (common (getD rows v 0) placed))
+
+abbrev pub Tallied : List ℕ → List ℕ → ℕ → Type 0
+Tallied rows labels placed = (v : ℕ) → v < 64 → tally rows placed v ≡ countBelow 64 (member (getD labels v 0))
+
+unfoldable pub countIn : Search → ℕ → ℕ
+countIn generic label = 0
+countIn bfs label = 0
+countIn dfs label = 0
+countIn lexBfs label = 0
+countIn lexDfs label = 0
+countIn mns label = 0
+countIn mcs label = countBelow 64 (member label)
+
+unfoldable pub profileOf : Search → ℕ → Profile
+profileOf s label = record { label = label; count = countIn s label }
 
 unfoldable pub aheadIn : Search → ℕ → ℕ → Bool
 aheadIn s c b = outranks s 64 (member c) (member b)
 
 unfoldable pub unexcusedIn : Search → ℕ → ℕ → ℕ → Bool
-unexcusedIn s i c b = not (anyBelow 64 (λ d. member b d && excuses s i d (member c d)))
+unexcusedIn s i c b = meets (condition s i) 64 (member c) (member b)
 
 unfoldable pub joinedIn : ℕ → ℕ → ℕ → ℕ → ℕ
 joinedIn row p v label = cond (member row v) (inserted label p) label

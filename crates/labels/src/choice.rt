@@ -1,15 +1,23 @@
 // The choice by a tie-break: of the offered vertices, the one that stands last in it.
+use crate::profile::profile_of;
 use searches::Kind;
 use searches::Vertex;
 ghost use mathlib.Core.Path.{_≡_};
 ghost use Prim.Native.Nat.{_<_};
 ghost use Rattle.searches.specs.Kind.{searchOf};
 ghost use Rattle.searches.specs.Ordering.{at};
-ghost use Rattle.labels.specs.Words.{Champion, Covers, openIn, chosenIn};
+ghost use Rattle.labels.specs.Words.{Tallied, Champion, Covers, openIn, chosenIn};
 
 // A vertex of `free`, which is not empty, that no other vertex of it is ahead of. Only one that is reached is ahead of another.
-fn champion(kind: Kind, labels: &[u64; 64], free: u64, reached: u64) -> Vertex
-    requires { ⌜ (0 < free) × Covers reached (now labels) ⌝ }
+fn champion(
+    kind: Kind,
+    rows: &[u64],
+    labels: &[u64; 64],
+    placed: u64,
+    free: u64,
+    reached: u64,
+) -> Vertex
+    requires { ⌜ (0 < free) × Covers reached (now labels) × Tallied (now rows) (now labels) placed ⌝ }
     ensures { λ r. ⌜ Champion (searchOf (kind .0)) (now (labels .entry)) free (r .0) ⌝ }
 {
     let front = bitset::common(free, reached);
@@ -17,22 +25,31 @@ fn champion(kind: Kind, labels: &[u64; 64], free: u64, reached: u64) -> Vertex
         let first = bitset::smallest(free) as u8;
         return Vertex(first);
     }
-    let mut best = bitset::smallest(front);
+    let mut best = Vertex(bitset::smallest(front) as u8);
     let mut rest = bitset::without_smallest(front);
     while rest != 0 {
-        let u = bitset::smallest(rest);
-        if crate::is_ahead(kind, labels[u], labels[best]) {
+        let u = Vertex(bitset::smallest(rest) as u8);
+        let lead = profile_of(kind, rows, labels, placed, best);
+        if crate::is_ahead(kind, profile_of(kind, rows, labels, placed, u), lead) {
             best = u;
         }
         rest = bitset::without_smallest(rest);
     }
-    let leader = best as u8;
-    Vertex(leader)
+    best
 }
 
 // Whether `v` is offered. `best` is a champion: it is offered itself, and except in MNS so is every vertex that it is not ahead of.
-fn is_open(kind: Kind, labels: &[u64; 64], free: u64, reached: u64, best: Vertex, v: Vertex) -> bool
-    requires { ⌜ Champion (searchOf (kind .0)) (now labels) free (best .0) × Covers reached (now labels) ⌝ }
+fn is_open(
+    kind: Kind,
+    rows: &[u64],
+    labels: &[u64; 64],
+    placed: u64,
+    free: u64,
+    reached: u64,
+    best: Vertex,
+    v: Vertex,
+) -> bool
+    requires { ⌜ Champion (searchOf (kind .0)) (now labels) free (best .0) × Covers reached (now labels) × Tallied (now rows) (now labels) placed ⌝ }
     ensures { λ r. ⌜ r ≡ openIn (searchOf (kind .0)) (now (labels .entry)) free (v .0) ⌝ }
 {
     let number = v.0 as usize;
@@ -43,14 +60,21 @@ fn is_open(kind: Kind, labels: &[u64; 64], free: u64, reached: u64, best: Vertex
     if number == leader {
         return true;
     }
-    let mine = labels[number];
-    if crate::is_ahead(kind, labels[leader], mine) {
+    let mine = profile_of(kind, rows, labels, placed, v);
+    if crate::is_ahead(kind, profile_of(kind, rows, labels, placed, best), mine) {
         return false;
     }
     if kind.0 != Kind::MNS.0 {
         return true;
     }
-    !crate::is_beaten(kind, labels, bitset::common(free, reached), mine)
+    !crate::is_beaten(
+        kind,
+        rows,
+        labels,
+        placed,
+        bitset::common(free, reached),
+        mine,
+    )
 }
 
 // The vertex at `i` of `list`; 0 behind its end.
@@ -66,20 +90,28 @@ fn entry(list: &[u8], i: usize) -> Vertex
 
 // The offered vertex that stands last in `tie_break`; its first entry where none is offered. `reached` holds every
 // vertex whose label is not empty.
-pub fn choose(kind: Kind, labels: &[u64; 64], free: u64, reached: u64, tie_break: &[u8]) -> Vertex
-    requires { ⌜ Covers reached (now labels) ⌝ }
+pub fn choose(
+    kind: Kind,
+    rows: &[u64],
+    labels: &[u64; 64],
+    placed: u64,
+    free: u64,
+    reached: u64,
+    tie_break: &[u8],
+) -> Vertex
+    requires { ⌜ Covers reached (now labels) × Tallied (now rows) (now labels) placed ⌝ }
     ensures { λ r. ⌜ r .0 ≡ chosenIn (searchOf (kind .0)) (now (labels .entry)) free (now («tie_break» .entry)) ⌝ }
 {
     if free == 0 {
         return entry(tie_break, 0);
     }
-    let best = champion(kind, labels, free, reached);
+    let best = champion(kind, rows, labels, placed, free, reached);
     let length = tie_break.len();
     let mut passed = 0;
     while passed < length {
         passed += 1;
         let v = entry(tie_break, length - passed);
-        if is_open(kind, labels, free, reached, best, v) {
+        if is_open(kind, rows, labels, placed, free, reached, best, v) {
             return v;
         }
     }

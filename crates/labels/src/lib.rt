@@ -1,60 +1,75 @@
-// Labels kept as words: bit p of a vertex's word is set when the vertex at position p leads to it. The comparison of two labels, the step
-// that a placed vertex makes, and the choice by a tie-break.
+// Labels kept as words: bit p of a vertex's word is set when the vertex at position p leads to it. What is compared of a vertex, the
+// comparison of two, the step that a placed vertex makes, and the choice by a tie-break.
 pub mod choice;
+pub mod profile;
 
+use crate::profile::Profile;
+use crate::profile::profile_of;
 use searches::Kind;
 use searches::Position;
+use searches::Vertex;
 ghost use mathlib.Core.Path.{_≡_};
 ghost use Prim.Native.Nat.{_<_};
 ghost use Rattle.searches.specs.Kind.{searchOf};
-ghost use Rattle.labels.specs.Words.{aheadIn, unexcusedIn, spreadTo, beatenIn};
+ghost use Rattle.labels.specs.Words.{profileOf, Tallied, aheadIn, unexcusedIn, spreadTo, beatenIn};
 
-// Whether label `c` is ahead of label `b`.
-pub fn is_ahead(kind: Kind, c: u64, b: u64) -> bool
-    ensures { λ r. ⌜ r ≡ aheadIn (searchOf (kind .0)) c b ⌝ }
+// Whether a vertex of profile `c` is ahead of one of profile `b`. MNS is tested first, then the kinds below LexBFS, then the others, so Generic
+// stands twice: with seven tests in a row the compiler does not make a loop for each search of a loop that calls this.
+pub fn is_ahead(kind: Kind, c: Profile, b: Profile) -> bool
+    requires { ⌜ (c ≡ profileOf (searchOf (kind .0)) (c .label)) × (b ≡ profileOf (searchOf (kind .0)) (b .label)) ⌝ }
+    ensures { λ r. ⌜ r ≡ aheadIn (searchOf (kind .0)) (c .label) (b .label) ⌝ }
 {
     let search = kind.0;
-    if search == Kind::BFS.0 {
-        return bitset::smallest(c) < bitset::smallest(b);
+    if search == Kind::MNS.0 {
+        return bitset::subset(b.label, c.label) & !bitset::subset(c.label, b.label);
     }
-    if search == Kind::DFS.0 {
-        return bitset::upper_bound(b) < bitset::upper_bound(c);
+    if search < Kind::LEX_BFS.0 {
+        if search == Kind::BFS.0 {
+            return bitset::smallest(c.label) < bitset::smallest(b.label);
+        }
+        if search == Kind::DFS.0 {
+            return bitset::upper_bound(b.label) < bitset::upper_bound(c.label);
+        }
+        return (c.label != 0) & (b.label == 0);
     }
     if search == Kind::LEX_BFS.0 {
-        return bitset::contains(c, bitset::lowest_difference(c, b));
+        return bitset::contains(c.label, bitset::lowest_difference(c.label, b.label));
     }
     if search == Kind::LEX_DFS.0 {
-        return bitset::above(c, b);
+        return bitset::above(c.label, b.label);
     }
-    if search == Kind::MNS.0 {
-        return bitset::subset(b, c) & !bitset::subset(c, b);
+    if search == Kind::MCS.0 {
+        return b.count < c.count;
     }
-    (c != 0) & (b == 0)
+    (c.label != 0) & (b.label == 0)
 }
 
-// Whether no position in label `b` excuses that `position`, which is in label `c`, is not in `b`.
-pub fn is_unexcused(kind: Kind, position: Position, c: u64, b: u64) -> bool
-    requires { ⌜ position .0 < 64 ⌝ }
-    ensures { λ r. ⌜ r ≡ unexcusedIn (searchOf (kind .0)) (position .0) c b ⌝ }
+// Whether nothing excuses that a vertex of profile `b` came before one of profile `c`, with `position` in the label of `c` and not of `b`.
+pub fn is_unexcused(kind: Kind, position: Position, c: Profile, b: Profile) -> bool
+    requires { ⌜ (position .0 < 64) × (c ≡ profileOf (searchOf (kind .0)) (c .label)) × (b ≡ profileOf (searchOf (kind .0)) (b .label)) ⌝ }
+    ensures { λ r. ⌜ r ≡ unexcusedIn (searchOf (kind .0)) (position .0) (c .label) (b .label) ⌝ }
 {
     let search = kind.0;
     let i = position.0;
     if search == Kind::BFS.0 {
-        return i <= bitset::smallest(b);
+        return i <= bitset::smallest(b.label);
     }
     if search == Kind::DFS.0 {
-        return !bitset::any_from(b, i + 1);
+        return !bitset::any_from(b.label, i + 1);
     }
     if search == Kind::LEX_BFS.0 {
-        return i <= bitset::smallest(bitset::without(b, c));
+        return i <= bitset::smallest(bitset::without(b.label, c.label));
     }
     if search == Kind::LEX_DFS.0 {
-        return !bitset::any_from(bitset::without(b, c), i + 1);
+        return !bitset::any_from(bitset::without(b.label, c.label), i + 1);
     }
     if search == Kind::MNS.0 {
-        return bitset::subset(b, c);
+        return bitset::subset(b.label, c.label);
     }
-    b == 0
+    if search == Kind::MCS.0 {
+        return c.count > b.count;
+    }
+    b.label == 0
 }
 
 // Puts `position` into the labels of the vertices below `n` that `row` leads to.
@@ -72,14 +87,26 @@ pub fn spread(labels: &mut [u64; 64], row: u64, position: Position, n: usize)
     }
 }
 
-// Whether a vertex of `free` has a label that is ahead of `mine`.
-pub fn is_beaten(kind: Kind, labels: &[u64; 64], free: u64, mine: u64) -> bool
-    ensures { λ r. ⌜ r ≡ beatenIn (searchOf (kind .0)) (now (labels .entry)) free mine ⌝ }
+// Whether a vertex of `free` is ahead of one of profile `mine`.
+pub fn is_beaten(
+    kind: Kind,
+    rows: &[u64],
+    labels: &[u64; 64],
+    placed: u64,
+    free: u64,
+    mine: Profile,
+) -> bool
+    requires { ⌜ (mine ≡ profileOf (searchOf (kind .0)) (mine .label)) × Tallied (now rows) (now labels) placed ⌝ }
+    ensures { λ r. ⌜ r ≡ beatenIn (searchOf (kind .0)) (now (labels .entry)) free (mine .label) ⌝ }
 {
     let mut rest = free;
     while rest != 0 {
-        let u = bitset::smallest(rest);
-        if is_ahead(kind, labels[u], mine) {
+        let u = bitset::smallest(rest) as u8;
+        if is_ahead(
+            kind,
+            profile_of(kind, rows, labels, placed, Vertex(u)),
+            mine,
+        ) {
             return true;
         }
         rest = bitset::without_smallest(rest);

@@ -174,8 +174,9 @@ fn main() {
     played(3);
     played(4);
     played(5);
-    damaged(6);
-    refused(6, &ring);
+    played(6);
+    damaged(7);
+    refused(7, &ring);
     refused(0, &crowd);
     refused(1, &outside);
     refused(2, &looped);

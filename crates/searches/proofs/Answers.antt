@@ -1,5 +1,5 @@
 -- What the calls answer where nothing is refused, and when that is.
---   valid-small                      a valid graph has at most 64 vertices
+--   valid-small, valid-any-kind      a valid graph has at most 64 vertices, and is valid for each kind
 --   accepts-both, both-accept        tests one behind the other
 --   clear, all-inside, none-repeated       an ordering is what the tests on its vertices let through
 --   ordering-accepted, accepted-ordering   judge refuses no ordering of a valid graph, and nothing else passes its tests
@@ -60,6 +60,11 @@ none-repeated {n} {w} {k} o t = let x = repeated-out w k t in o .distinct (x .0)
 pub valid-small : (kind : ℕ) (rows : List ℕ) → Accepts (openTests kind rows) → length rows ≤ 64
 unfolding openTests
 valid-small kind rows a = nltb→le 64 (length rows) (not-T (ltb 64 (length rows)) (a .1 .0))
+
+-- nothing but the kind byte itself is refused for one kind and not for another
+pub valid-any-kind : (kind kind′ : ℕ) (rows : List ℕ) → kind′ < 7 → Accepts (openTests kind rows) → Accepts (openTests kind′ rows)
+unfolding openTests
+valid-any-kind kind kind′ rows known a = (λ t. omega (arith, ltb→lt 6 kind′ t), a .1)
 
 -- ---- judge
 

@@ -1,7 +1,8 @@
 -- The examples of 01, as one table that is computed. Those that 01 stars, and behind them an empty plan and a full start.
---   rowsOf n links     the rows of the plan with n points and these links
+--   rowOf u links, rowsOf n links   the row of u, and all rows, of the plan with n points and these links
+--   P                  01's plan P
 --   Question           a walk to be judged, or a preference list and a start to be carried on
---   Example            a plan, a question, and the numbers of the answer for each kind that 01 names
+--   Example            a plan, a question, and the numbers of the answer for each kind that 01 names, and for MCS where 01 says all, the rest or the others
 --   examples-right     every answer of the table is what the definitions give
 -- Assumes nothing.
 use mathlib.Core.Path.{_≡_, refl, ap₂}
@@ -9,14 +10,14 @@ use mathlib.Core.Bool.{Bool, true, false, cond, _&&_}
 use mathlib.Core.List.{List, [], _∷_, map}
 use Prim.Native.Nat.{ℕ, _+_, _^_}
 use lib.Dec.{T, eqb, eqb→eq}
-use Rattle.bitset.specs.Below.{anyBelow, allBelow, firstBelow, lastBelow, differ, within}
+use Rattle.bitset.specs.Below.{anyBelow, allBelow, firstBelow, lastBelow, countBelow, differ, within}
 use Rattle.bitset.specs.Word.{member}
 use Rattle.bitset.proofs.Tests.{and-out}
 use Rattle.searches.specs.Kind.{searchOf}
 use Rattle.searches.specs.Ordering.{arcs, placed}
 use Rattle.searches.specs.Label.{label, empty, nearer, settled, outranks}
 use Rattle.searches.specs.Run.{offered}
-use Rattle.searches.specs.Violation.{excuses, violates}
+use Rattle.searches.specs.Violation.{condition, meets, violates}
 use Rattle.searches.specs.Violation.{Verdict, passes, fails, refused, third, isLast, isFirst, isMiddle, judge}
 use Rattle.searches.specs.CarryOn.{choice, grow, carryOn}
 use Rattle.searches.specs.Answer.{bitOutside, selfLoop, oneWay, vertexOutside, repeated, isPass, openTests, judgeTests, listTests, carryOnTests, firstRefusal}
@@ -25,11 +26,11 @@ use Rattle.searches.proofs.Ordering.{upTo}
 
 -- ---- plans by their links
 
-rowOf : ℕ → List (ℕ × ℕ) → ℕ
+unfoldable pub rowOf : ℕ → List (ℕ × ℕ) → ℕ
 rowOf u [] = 0
 rowOf u (link ∷ links) = cond (eqb u (link .0)) (2 ^ link .1) 0 + cond (eqb u (link .1)) (2 ^ link .0) 0 + rowOf u links
 
-rowsOf : ℕ → List (ℕ × ℕ) → List ℕ
+unfoldable pub rowsOf : ℕ → List (ℕ × ℕ) → List ℕ
 rowsOf n links = map (λ u. rowOf u links) (upTo n)
 
 -- ---- questions and answers
@@ -55,7 +56,7 @@ record Example : Type 0 where
   answers : List (ℕ × List ℕ)
 
 everywhere : List ℕ → List (ℕ × List ℕ)
-everywhere a = (0, a) ∷ (1, a) ∷ (2, a) ∷ (3, a) ∷ (4, a) ∷ (5, a) ∷ []
+everywhere a = (0, a) ∷ (1, a) ∷ (2, a) ∷ (3, a) ∷ (4, a) ∷ (5, a) ∷ (6, a) ∷ []
 
 pass : List ℕ
 pass = 1 ∷ []
@@ -63,7 +64,7 @@ pass = 1 ∷ []
 fail : ℕ → ℕ → ℕ → List ℕ
 fail a b c = 0 ∷ a ∷ b ∷ c ∷ []
 
-P : List ℕ
+unfoldable pub P : List ℕ
 P = rowsOf 4 ((0, 1) ∷ (0, 2) ∷ (1, 3) ∷ [])
 
 C : List ℕ
@@ -77,33 +78,33 @@ examples =
     record {
       rows = P;
       question = judging (0 ∷ 1 ∷ 2 ∷ 3 ∷ []);
-      answers = (0, pass) ∷ (1, pass) ∷ (2, fail 1 2 3) ∷ (3, pass) ∷ (4, fail 1 2 3) ∷ (5, pass) ∷ [];
+      answers = (0, pass) ∷ (1, pass) ∷ (2, fail 1 2 3) ∷ (3, pass) ∷ (4, fail 1 2 3) ∷ (5, pass) ∷ (6, pass) ∷ [];
     }
     ∷ record {
       rows = P;
       question = judging (0 ∷ 1 ∷ 3 ∷ 2 ∷ []);
-      answers = (0, pass) ∷ (1, fail 0 3 2) ∷ (2, pass) ∷ (3, fail 0 3 2) ∷ (4, pass) ∷ (5, pass) ∷ [];
+      answers = (0, pass) ∷ (1, fail 0 3 2) ∷ (2, pass) ∷ (3, fail 0 3 2) ∷ (4, pass) ∷ (5, pass) ∷ (6, pass) ∷ [];
     }
     ∷ record { rows = P; question = judging (2 ∷ 1 ∷ []); answers = everywhere (fail 2 1 0) }
     ∷ record {
       rows = C;
       question = judging (0 ∷ 1 ∷ 2 ∷ 3 ∷ []);
-      answers = (0, pass) ∷ (1, fail 0 2 3) ∷ (2, pass) ∷ (3, fail 0 2 3) ∷ (4, pass) ∷ (5, pass) ∷ [];
+      answers = (0, pass) ∷ (1, fail 0 2 3) ∷ (2, pass) ∷ (3, fail 0 2 3) ∷ (4, pass) ∷ (5, pass) ∷ (6, pass) ∷ [];
     }
     ∷ record {
       rows = C;
       question = judging (0 ∷ 1 ∷ 3 ∷ 2 ∷ []);
-      answers = (0, pass) ∷ (1, pass) ∷ (2, fail 1 3 2) ∷ (3, pass) ∷ (4, fail 1 3 2) ∷ (5, pass) ∷ [];
+      answers = (0, pass) ∷ (1, pass) ∷ (2, fail 1 3 2) ∷ (3, pass) ∷ (4, fail 1 3 2) ∷ (5, pass) ∷ (6, pass) ∷ [];
     }
     ∷ record {
       rows = rowsOf 4 ((0, 1) ∷ (0, 2) ∷ (0, 3) ∷ (1, 3) ∷ []);
       question = judging (0 ∷ 1 ∷ 2 ∷ 3 ∷ []);
-      answers = (0, pass) ∷ (1, pass) ∷ (2, fail 1 2 3) ∷ (3, fail 1 2 3) ∷ (4, fail 1 2 3) ∷ (5, fail 1 2 3) ∷ [];
+      answers = (0, pass) ∷ (1, pass) ∷ (2, fail 1 2 3) ∷ (3, fail 1 2 3) ∷ (4, fail 1 2 3) ∷ (5, fail 1 2 3) ∷ (6, fail 1 2 3) ∷ [];
     }
     ∷ record {
       rows = rowsOf 4 ((0, 1) ∷ (0, 3) ∷ (1, 2) ∷ (1, 3) ∷ []);
       question = judging (0 ∷ 1 ∷ 2 ∷ 3 ∷ []);
-      answers = (0, pass) ∷ (1, fail 0 2 3) ∷ (2, pass) ∷ (3, fail 0 2 3) ∷ (4, fail 0 2 3) ∷ (5, fail 0 2 3) ∷ [];
+      answers = (0, pass) ∷ (1, fail 0 2 3) ∷ (2, pass) ∷ (3, fail 0 2 3) ∷ (4, fail 0 2 3) ∷ (5, fail 0 2 3) ∷ (6, fail 0 2 3) ∷ [];
     }
     ∷ record { rows = two-pieces; question = judging (0 ∷ 2 ∷ []); answers = everywhere (fail 0 2 1) }
     ∷ record { rows = two-pieces; question = judging (2 ∷ 0 ∷ 1 ∷ []); answers = everywhere pass }
@@ -170,7 +171,7 @@ right-out (e ∷ es) t =
 
 computed : T (right examples)
 unfolding right answered same answer numbers examples P C two-pieces everywhere pass fail rowsOf rowOf upTo
-    anyBelow allBelow firstBelow lastBelow differ within member searchOf arcs placed label empty nearer settled outranks offered excuses violates
+    anyBelow allBelow firstBelow lastBelow countBelow differ within member searchOf arcs placed label empty nearer settled outranks offered condition meets violates
     third isLast isFirst isMiddle judge choice grow carryOn bitOutside selfLoop oneWay vertexOutside repeated isPass
     openTests judgeTests listTests carryOnTests firstRefusal judgeAnswer carryOnOutput
 computed = tt

@@ -1,4 +1,5 @@
 pub mod Reason
+pub mod AheadToo
 pub mod StrictOrder
 pub mod Maximal
 pub mod Ordering
@@ -11,4 +12,5 @@ pub mod Refusals
 pub mod Answers
 pub mod Parts
 pub mod Examples
+pub mod CarryOver
 pub mod Demands

@@ -7,7 +7,7 @@
 --   offered-grows, grows-offered    the offered vertices are those with which a passed ordering passes when it grows by one
 -- Assumes nothing.
 use mathlib.Core.Path.{_≡_, refl, sym, ap, _∙_, subst}
-use mathlib.Core.Bool.{Bool, cond, _&&_}
+use mathlib.Core.Bool.{Bool, cond}
 use mathlib.Core.Logic.{_⊎_, inl, inr}
 use mathlib.Core.List.{List, [], _∷_, _++_}
 use Prim.Native.Nat.{ℕ, suc, _+_, _-_, _≤_, _<_}
@@ -15,16 +15,18 @@ use native.Mathlib.Omega.{arith}
 use lib.Dec.{T, ltb, ltb→lt}
 use lib.ListN.{length, take}
 use lib.Seq.{take-all}
-use Rattle.bitset.specs.Below.{anyBelow, firstBelow}
+use Rattle.bitset.specs.Below.{firstBelow}
 use Rattle.bitset.proofs.Tests.{below-or, cond-no}
 use Rattle.bitset.proofs.Below.{any-same, first, first-same, first-found, any-out}
 use Rattle.searches.specs.Kind.{Search}
 use Rattle.searches.specs.Ordering.{at, placed, IsOrdering, IsFullOrdering}
+use Rattle.searches.specs.Label.{label}
 use Rattle.searches.specs.Run.{offered, Reached, Run, BeginsRun}
-use Rattle.searches.specs.Violation.{excuses, violates, Violates, Precedes, FirstViolation}
+use Rattle.searches.specs.Violation.{condition, meets, violates, Violates, Precedes, FirstViolation}
 use Rattle.searches.specs.Violation.{Verdict, passes, fails, refused, Fails, third, isLast, isFirst, isMiddle, judge}
 use Rattle.searches.specs.CarryOn.{carryOn}
 use Rattle.searches.proofs.Ordering.{Agree, agree-fewer, placed-agree, take-agree, begins-agree, ordering-prefix, ordering-fits, length-grown, grown-agree, grown-last, upTo, upTo-full}
+use Rattle.searches.proofs.Reason.{meets-same}
 use Rattle.searches.proofs.Run.{Greedy, greedy-agree, greedy-ordering, greedy-reached, greedy-grown, reached-greedy, offered-agree}
 use Rattle.searches.proofs.Judge.{Judged, judge-says, unviolated-passes}
 use Rattle.searches.proofs.CarryOn.{greedy-passes, passes-greedy, carryOn-carries}
@@ -33,11 +35,10 @@ module _ (s : Search) (arc : ℕ → ℕ → Bool) (n : ℕ) where
   -- ---- only the judged positions matter
 
   module _ (k : ℕ) (w w′ : List ℕ) (a : Agree k w w′) where
-    excused-agree : (i j c d : ℕ) → d < j → j < k
-        → (arc (at w d) (at w j) && excuses s i d (arc (at w d) c)) ≡ (arc (at w′ d) (at w′ j) && excuses s i d (arc (at w′ d) c))
-    excused-agree i j c d h l =
+    label-agree : (v v′ j : ℕ) → v ≡ v′ → j < k → (d : ℕ) → d < j → label arc w v d ≡ label arc w′ v′ d
+    unfolding label
+    label-agree v v′ j same l d h =
         let e : at w d ≡ at w′ d = a d (omega arith) in
-        let f : at w j ≡ at w′ j = a j l in
         cc
 
     violates-agree : (i j c : ℕ) → i < j → j < k → violates s arc w i j c ≡ violates s arc w′ i j c
@@ -46,8 +47,9 @@ module _ (s : Search) (arc : ℕ → ℕ → Bool) (n : ℕ) where
         let e : at w i ≡ at w′ i = a i (omega arith) in
         let f : at w j ≡ at w′ j = a j l in
         let p : placed w (suc j) c ≡ placed w′ (suc j) c = placed-agree (suc j) c w w′ (agree-fewer (suc j) k w w′ l a) in
-        let x : anyBelow j (λ d. arc (at w d) (at w j) && excuses s i d (arc (at w d) c)) ≡ anyBelow j (λ d. arc (at w′ d) (at w′ j) && excuses s i d (arc (at w′ d) c)) =
-        any-same j (λ d. arc (at w d) (at w j) && excuses s i d (arc (at w d) c)) (λ d. arc (at w′ d) (at w′ j) && excuses s i d (arc (at w′ d) c)) (λ d g. excused-agree i j c d g l)
+        let x : meets (condition s i) j (label arc w c) (label arc w (at w j)) ≡ meets (condition s i) j (label arc w′ c) (label arc w′ (at w′ j)) =
+        meets-same j (label arc w c) (label arc w (at w j)) (label arc w′ c) (label arc w′ (at w′ j)) (label-agree c c j refl l)
+        (label-agree (at w j) (at w′ j) j f l) (condition s i)
         in
         cc
 

@@ -1,28 +1,53 @@
--- A label is ahead of another exactly when there is a reason. Here, and nowhere else, the six searches are taken apart.
---   Reason bar k c b                   a position of c's, not of b's, that no position of b's excuses by bar
---   outranks→reason, reason→outranks   ahead exactly when there is a reason
+-- A label is ahead of another exactly when there is a reason, shown search by search.
+--   meets-in, meets-out, meets-same    a condition as a test and in words; only the positions below the bound matter
+--   Reason own k c b                   a position of c's, not of b's, and what is asked besides for that position
+--   reason→outranks, outranks→reason   ahead exactly when there is a reason
 --   End, low-end, high-end             the two ends from which positions are counted: an order, and the number of a set that is first in it
 -- Assumes nothing.
-use mathlib.Core.Path.{_≡_, refl, sym, subst}
+use mathlib.Core.Path.{_≡_, refl, sym, ap, ap₂, subst}
 use mathlib.Core.Bool.{Bool, true, not, _&&_, _||_}
 use mathlib.Core.Logic.{_⊎_, inl, inr}
 use Prim.Native.Nat.{ℕ, _<_}
 use native.Mathlib.Omega.{arith}
 use lib.Dec.{T, ltb, ltb→lt, lt→ltb, not-T, T-not}
-use Rattle.bitset.specs.Below.{anyBelow, firstBelow, lastBelow, differ, within}
+use Rattle.bitset.specs.Below.{anyBelow, firstBelow, lastBelow, countBelow, differ, within}
 use Rattle.bitset.proofs.Tests.{and-in, and-out, or-inl, or-inr, or-out, not-not, decided, three-ways}
-use Rattle.bitset.proofs.Below.{Some, any-out, any-in, first, first-found, last}
+use Rattle.bitset.proofs.Below.{Some, any-out, any-in, any-at, any-same, first, first-found, last}
+use Rattle.bitset.proofs.Count.{count-same, count-extra}
 use Rattle.bitset.proofs.Sets.{differ-in, differ-other, differ-out, within-in, within-out, not-within}
-use Rattle.searches.specs.Kind.{Search, generic, bfs, dfs, lexBfs, lexDfs, mns}
+use Rattle.searches.specs.Kind.{Search, generic, bfs, dfs, lexBfs, lexDfs, mns, mcs}
 use Rattle.searches.specs.Label.{empty, nearer, settled, outranks}
-use Rattle.searches.specs.Violation.{excuses}
+use Rattle.searches.specs.Violation.{Condition, noneExcuses, counted, condition, meets, Meets}
 
-pub record Reason (bar : ℕ → ℕ → Bool → Bool) (k : ℕ) (c b : ℕ → Bool) : Type 0 where
+pub record Reason (own : ℕ → Condition) (k : ℕ) (c b : ℕ → Bool) : Type 0 where
   pub position : ℕ
   pub below : position < k
   pub ours : T (c position)
   pub theirs : T (b position) → ⊥
-  pub unexcused : (d : ℕ) → d < k → T (b d) → T (bar position d (c d)) → ⊥
+  pub unexcused : Meets (own position) k c b
+
+module _ (k : ℕ) (c b : ℕ → Bool) where
+  pub meets-out : (own : Condition) → T (meets own k c b) → Meets own k c b
+  unfolding meets
+  meets-out (noneExcuses excuses) t = λ d l p q.
+      T-not (anyBelow k (λ d. b d && excuses d (c d))) t (any-at k (λ d. b d && excuses d (c d)) d l (and-in (b d) (excuses d (c d)) p q))
+  meets-out (counted test) t = t
+
+  pub meets-in : (own : Condition) → Meets own k c b → T (meets own k c b)
+  unfolding meets
+  meets-in (noneExcuses excuses) none =
+      not-T (anyBelow k (λ d. b d && excuses d (c d))) (λ t.
+      let d = any-out k (λ d. b d && excuses d (c d)) t in
+      let both = and-out (b (d .at)) (excuses (d .at) (c (d .at))) (d .holds) in
+      none (d .at) (d .below) (both .0) (both .1))
+  meets-in (counted test) t = t
+
+  pub meets-same : (c′ b′ : ℕ → Bool) → ((p : ℕ) → p < k → c p ≡ c′ p) → ((p : ℕ) → p < k → b p ≡ b′ p) → (own : Condition) → meets own k c b ≡ meets own k c′ b′
+  unfolding meets
+  meets-same c′ b′ c-same b-same (noneExcuses excuses) =
+      ap not (any-same k (λ d. b d && excuses d (c d)) (λ d. b′ d && excuses d (c′ d))
+      (λ d l. ap₂ (λ (x y : Bool). x && excuses d y) (b-same d l) (c-same d l)))
+  meets-same c′ b′ c-same b-same (counted test) = ap₂ test (count-same k c c′ c-same) (count-same k b b′ b-same)
 
 -- ---- the two ends from which positions are counted
 
@@ -79,7 +104,7 @@ high-end = record {
 
 module _ (before : ℕ → ℕ → Bool) (pick : ℕ → (ℕ → Bool) → ℕ) (e : End before pick) (k : ℕ) (c b : ℕ → Bool) where
   -- c's extreme position is ahead of b's exactly when a position of c's, not of b's, has none of b's before it
-  nearer-out : T (nearer before pick k c b) → Reason (λ i d inC. before d i) k c b
+  nearer-out : T (nearer before pick k c b) → Reason (λ i. noneExcuses (λ d inC. before d i)) k c b
   unfolding nearer empty
   nearer-out t =
       let halves = and-out (not (not (anyBelow k c))) (not (anyBelow k b) || before (pick k c) (pick k b)) t in
@@ -98,7 +123,7 @@ module _ (before : ℕ → ℕ → Bool) (pick : ℕ → (ℕ → Bool) → ℕ)
       clash (inr ahead) d l p (inl same) = e .ahead k b d l p (subst (λ (x : ℕ). T (before x (pick k b))) (sym same) ahead)
       clash (inr ahead) d l p (inr q) = e .ahead k b d l p (e .chain d (pick k c) (pick k b) q ahead)
 
-  nearer-in : Reason (λ i d inC. before d i) k c b → T (nearer before pick k c b)
+  nearer-in : Reason (λ i. noneExcuses (λ d inC. before d i)) k c b → T (nearer before pick k c b)
   unfolding nearer empty
   nearer-in r =
       and-in (not (not (anyBelow k c))) (not (anyBelow k b) || before (pick k c) (pick k b))
@@ -125,7 +150,7 @@ module _ (before : ℕ → ℕ → Bool) (pick : ℕ → (ℕ → Bool) → ℕ)
       go (inr none) = or-inl (not (anyBelow k b)) (before (pick k c) (pick k b)) (not-T (anyBelow k b) none)
 
   -- the extreme position in which the labels differ is c's exactly when, before some such position of c's, all of b's are c's too
-  settled-out : T (settled pick k c b) → Reason (λ i d inC. before d i && not inC) k c b
+  settled-out : T (settled pick k c b) → Reason (λ i. noneExcuses (λ d inC. before d i && not inC)) k c b
   unfolding settled
   settled-out t =
       let halves = and-out (anyBelow k (differ c b)) (c (pick k (differ c b))) t in
@@ -141,7 +166,7 @@ module _ (before : ℕ → ℕ → Bool) (pick : ℕ → (ℕ → Bool) → ℕ)
             e .ahead k (differ c b) d l (differ-other c b d (T-not (c d) (x .1)) p) (x .0);
       }
 
-  settled-in : Reason (λ i d inC. before d i && not inC) k c b → T (settled pick k c b)
+  settled-in : Reason (λ i. noneExcuses (λ d inC. before d i && not inC)) k c b → T (settled pick k c b)
   unfolding settled
   settled-in r = and-in (anyBelow k (differ c b)) (c top) (any-in some) (go (decided (c top)) (e .compare top (r .position)))
     where
@@ -162,7 +187,7 @@ module _ (before : ℕ → ℕ → Bool) (pick : ℕ → (ℕ → Bool) → ℕ)
 -- ---- ahead exactly when there is a reason
 
 module _ (k : ℕ) (c b : ℕ → Bool) where
-  generic-out : T (not (empty k c) && empty k b) → Reason (λ i d inC. true) k c b
+  generic-out : T (not (empty k c) && empty k b) → Reason (λ i. noneExcuses (λ d inC. true)) k c b
   unfolding empty
   generic-out t =
       let halves = and-out (not (not (anyBelow k c))) (not (anyBelow k b)) t in
@@ -176,14 +201,14 @@ module _ (k : ℕ) (c b : ℕ → Bool) where
         unexcused = λ d l p q. none d l p;
       }
 
-  generic-in : Reason (λ i d inC. true) k c b → T (not (empty k c) && empty k b)
+  generic-in : Reason (λ i. noneExcuses (λ d inC. true)) k c b → T (not (empty k c) && empty k b)
   unfolding empty
   generic-in r =
       and-in (not (not (anyBelow k c))) (not (anyBelow k b))
       (not-T (not (anyBelow k c)) (λ none. T-not (anyBelow k c) none (any-in (record { at = r .position; below = r .below; holds = r .ours }))))
       (not-T (anyBelow k b) (λ t. let some = any-out k b t in r .unexcused (some .at) (some .below) (some .holds) tt))
 
-  mns-out : T (within k b c && not (within k c b)) → Reason (λ i d inC. not inC) k c b
+  mns-out : T (within k b c && not (within k c b)) → Reason (λ i. noneExcuses (λ d inC. not inC)) k c b
   mns-out t =
       let halves = and-out (within k b c) (not (within k c b)) t in
       let extra = not-within k c b (T-not (within k c b) (halves .1)) in
@@ -195,26 +220,41 @@ module _ (k : ℕ) (c b : ℕ → Bool) where
         unexcused = λ d l p q. T-not (c d) q (within-out k b c (halves .0) d l p);
       }
 
-  mns-in : Reason (λ i d inC. not inC) k c b → T (within k b c && not (within k c b))
+  mns-in : Reason (λ i. noneExcuses (λ d inC. not inC)) k c b → T (within k b c && not (within k c b))
   mns-in r =
       and-in (within k b c) (not (within k c b))
       (within-in k b c (λ d l p. not-not (c d) (not-T (not (c d)) (r .unexcused d l p))))
       (not-T (within k c b) (λ all. r .theirs (within-out k c b all (r .position) (r .below) (r .ours))))
 
-  pub outranks→reason : (s : Search) → T (outranks s k c b) → Reason (excuses s) k c b
-  unfolding outranks excuses
-  outranks→reason generic t = generic-out t
-  outranks→reason bfs t = nearer-out earlier firstBelow low-end k c b t
-  outranks→reason dfs t = nearer-out later lastBelow high-end k c b t
-  outranks→reason lexBfs t = settled-out earlier firstBelow low-end k c b t
-  outranks→reason lexDfs t = settled-out later lastBelow high-end k c b t
-  outranks→reason mns t = mns-out t
+  -- of two labels the larger has a position that the other has not
+  mcs-out : T (ltb (countBelow k b) (countBelow k c)) → Reason (λ i. counted (λ ofC ofB. ltb ofB ofC)) k c b
+  mcs-out t =
+      let extra = count-extra k c b (ltb→lt (countBelow k b) (countBelow k c) t) in
+      let both = and-out (c (extra .at)) (not (b (extra .at))) (extra .holds) in
+      record {
+        position = extra .at;
+        below = extra .below;
+        ours = both .0;
+        theirs = T-not (b (extra .at)) (both .1);
+        unexcused = t;
+      }
 
-  pub reason→outranks : (s : Search) → Reason (excuses s) k c b → T (outranks s k c b)
-  unfolding outranks excuses
+  pub reason→outranks : (s : Search) → Reason (condition s) k c b → T (outranks s k c b)
+  unfolding outranks condition
   reason→outranks generic r = generic-in r
   reason→outranks bfs r = nearer-in earlier firstBelow low-end k c b r
   reason→outranks dfs r = nearer-in later lastBelow high-end k c b r
   reason→outranks lexBfs r = settled-in earlier firstBelow low-end k c b r
   reason→outranks lexDfs r = settled-in later lastBelow high-end k c b r
   reason→outranks mns r = mns-in r
+  reason→outranks mcs r = r .unexcused
+
+  pub outranks→reason : (s : Search) → T (outranks s k c b) → Reason (condition s) k c b
+  unfolding outranks condition
+  outranks→reason generic t = generic-out t
+  outranks→reason bfs t = nearer-out earlier firstBelow low-end k c b t
+  outranks→reason dfs t = nearer-out later lastBelow high-end k c b t
+  outranks→reason lexBfs t = settled-out earlier firstBelow low-end k c b t
+  outranks→reason lexDfs t = settled-out later lastBelow high-end k c b t
+  outranks→reason mns t = mns-out t
+  outranks→reason mcs t = mcs-out t

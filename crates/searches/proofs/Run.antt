@@ -24,9 +24,10 @@ use Rattle.searches.specs.Kind.{Search}
 use Rattle.searches.specs.Ordering.{at, placed, IsOrdering}
 use Rattle.searches.specs.Label.{label, outranks}
 use Rattle.searches.specs.Run.{offered, Reached, nothing, next}
-use Rattle.searches.specs.Violation.{excuses}
+use Rattle.searches.specs.Violation.{condition}
 use Rattle.searches.proofs.Maximal.{Maximal, some-maximal}
-use Rattle.searches.proofs.Reason.{outranks→reason, reason→outranks}
+use Rattle.searches.proofs.Reason.{meets-in, meets-out, meets-same, outranks→reason, reason→outranks}
+use Rattle.searches.proofs.AheadToo.{ahead-of-none}
 use Rattle.searches.proofs.StrictOrder.{outranks-irreflexive, outranks-transitive}
 use Rattle.searches.proofs.Ordering.{Agree, agree-sym, agree-fewer, placed-in, placed-agree, take-agree, some-unplaced}
 use Rattle.searches.proofs.Ordering.{length-grown, grown-agree, grown-last}
@@ -91,14 +92,16 @@ module _ (s : Search) (arc : ℕ → ℕ → Bool) (n : ℕ) where
       let r = outranks→reason k (label arc w u) (label arc w v) s t in
       let u-same = label-agree k u w w′ a in
       let v-same = label-agree k v w w′ a in
+      let own = condition s (r .position) in
       reason→outranks k (label arc w′ u) (label arc w′ v) s (record {
         position = r .position;
         below = r .below;
         ours = subst (λ (b : Bool). T b) (u-same (r .position) (r .below)) (r .ours);
         theirs = λ p. r .theirs (subst (λ (b : Bool). T b) (sym (v-same (r .position) (r .below))) p);
-        unexcused = λ d l p x.
-            r .unexcused d l (subst (λ (b : Bool). T b) (sym (v-same d l)) p)
-            (subst (λ (inC : Bool). T (excuses s (r .position) d inC)) (sym (u-same d l)) x);
+        unexcused =
+            meets-out k (label arc w′ u) (label arc w′ v) own
+            (subst (λ (b : Bool). T b) (meets-same k (label arc w u) (label arc w v) (label arc w′ u) (label arc w′ v) u-same v-same own)
+            (meets-in k (label arc w u) (label arc w v) own (r .unexcused)));
       })
 
   pub offered-agree : (k v : ℕ) (w w′ : List ℕ) → Agree k w w′ → T (offered s arc n w k v) → T (offered s arc n w′ k v)
@@ -162,13 +165,7 @@ module _ (s : Search) (arc : ℕ → ℕ → Bool) (n : ℕ) where
   pub restart-only-then : (w : List ℕ) (k v : ℕ) → Unreached w k v → T (offered s arc n w k v)
       → (u : ℕ) → u < n → (T (placed w k u) → ⊥) → Unreached w k u
   restart-only-then w k v none t u l out p h inside =
-      offered-out w k v t .unbeaten u l out (reason→outranks k (label arc w u) (label arc w v) s (record {
-        position = p;
-        below = h;
-        ours = inside;
-        theirs = none p h;
-        unexcused = λ d i x _. none d i x;
-      }))
+      offered-out w k v t .unbeaten u l out (ahead-of-none s k (label arc w u) (label arc w v) p h inside none)
 
   -- ---- prefixes of runs
 

@@ -11,27 +11,26 @@ use mathlib.Core.List.{List}
 use Prim.Native.Nat.{ℕ, suc, _<_}
 use native.Mathlib.Omega.{arith}
 use lib.Dec.{T, not-T, T-not}
-use Rattle.bitset.specs.Below.{anyBelow}
 use Rattle.bitset.proofs.Tests.{and-in, and-out, decided, below-suc}
-use Rattle.bitset.proofs.Below.{any-out, any-at}
 use Rattle.searches.specs.Kind.{Search}
 use Rattle.searches.specs.Ordering.{at, placed, IsOrdering}
 use Rattle.searches.specs.Label.{label}
 use Rattle.searches.specs.Run.{offered}
-use Rattle.searches.specs.Violation.{excuses, violates, Violates}
-use Rattle.searches.proofs.Reason.{outranks→reason, reason→outranks}
+use Rattle.searches.specs.Violation.{condition, meets, violates, Violates}
+use Rattle.searches.proofs.Reason.{meets-in, meets-out, outranks→reason, reason→outranks}
 use Rattle.searches.proofs.Ordering.{placed-in, placed-out, placed-more, ordering-unplaced}
 use Rattle.searches.proofs.Run.{offered-out, unoffered-beaten, Greedy}
 
 module _ (s : Search) (arc : ℕ → ℕ → Bool) (w : List ℕ) where
   module _ (i j c : ℕ) where
-    excused : ℕ → Bool
-    excused d = arc (at w d) (at w j) && excuses s i d (arc (at w d) c)
+    -- the search's own condition on the labels of c and of b
+    abbrev own : Bool
+    own = meets (condition s i) j (label arc w c) (label arc w (at w j))
 
     pub violates-out : (n k : ℕ) → i < j → j < k → c < n → T (violates s arc w i j c) → Violates s arc n w k i j c
-    unfolding violates excused
+    unfolding violates
     violates-out n k before middle vertex t =
-        let x = and-out (arc (at w i) c && not (arc (at w i) (at w j)) && not (placed w (suc j) c)) (not (anyBelow j excused)) t in
+        let x = and-out (arc (at w i) c && not (arc (at w i) (at w j)) && not (placed w (suc j) c)) own t in
         let y = and-out (arc (at w i) c && not (arc (at w i) (at w j))) (not (placed w (suc j) c)) (x .0) in
         let z = and-out (arc (at w i) c) (not (arc (at w i) (at w j))) (y .0) in
         record {
@@ -41,21 +40,17 @@ module _ (s : Search) (arc : ℕ → ℕ → Bool) (w : List ℕ) where
           later = T-not (placed w (suc j) c) (y .1);
           linked = z .0;
           apart = T-not (arc (at w i) (at w j)) (z .1);
-          unexcused = λ d l p q.
-              T-not (anyBelow j excused) (x .1) (any-at j excused d l (and-in (arc (at w d) (at w j)) (excuses s i d (arc (at w d) c)) p q));
+          unexcused = meets-out j (label arc w c) (label arc w (at w j)) (condition s i) (x .1);
         }
 
     pub violates-in : {n k : ℕ} → Violates s arc n w k i j c → T (violates s arc w i j c)
-    unfolding violates excused
+    unfolding violates
     violates-in v =
-        and-in (arc (at w i) c && not (arc (at w i) (at w j)) && not (placed w (suc j) c)) (not (anyBelow j excused))
+        and-in (arc (at w i) c && not (arc (at w i) (at w j)) && not (placed w (suc j) c)) own
         (and-in (arc (at w i) c && not (arc (at w i) (at w j))) (not (placed w (suc j) c))
         (and-in (arc (at w i) c) (not (arc (at w i) (at w j))) (v .linked) (not-T (arc (at w i) (at w j)) (v .apart)))
         (not-T (placed w (suc j) c) (v .later)))
-        (not-T (anyBelow j excused) (λ t.
-        let d = any-out j excused t in
-        let both = and-out (arc (at w (d .at)) (at w j)) (excuses s i (d .at) (arc (at w (d .at)) c)) (d .holds) in
-        v .unexcused (d .at) (d .below) (both .0) (both .1)))
+        (meets-in j (label arc w c) (label arc w (at w j)) (condition s i) (v .unexcused))
 
   module _ (n : ℕ) where
     pub violation-refutes : {k i j c : ℕ} → Violates s arc n w k i j c → T (offered s arc n w j (at w j)) → ⊥

@@ -46,7 +46,7 @@ isPass (refused r) = false
 
 unfoldable pub openTests : ℕ → List ℕ → List (ℕ × Bool)
 openTests kind rows =
-    (1, ltb 5 kind)
+    (1, ltb 6 kind)
     ∷ (2, ltb 64 (length rows))
     ∷ (3, bitOutside rows)
     ∷ (4, selfLoop rows)

@@ -5,3 +5,4 @@ pub mod Run
 pub mod Violation
 pub mod CarryOn
 pub mod Answer
+pub mod CarryOver

@@ -1,5 +1,7 @@
 -- Violations: three vertices that show that an ordering is not of a search. The first two are given by their positions i and j.
---   excuses s i d inC            d, at position d before b's and linked to b, excuses b; inC: d is linked to c   [01: the six lines on d]
+--   Condition                    a search's own condition on the neighbours that c and b have before b: none of b's excuses b, or how many they are
+--   condition s i                each search's own, for a at position i                                          [01: the six lines on d; 02: K1]
+--   meets x k c b                labels c and b, of positions below k, meet condition x;   Meets   the same in words
 --   violates s arc w i j c       the test on a at position i, b at position j and c, but for i < j               [01: the fault relation]
 --   Violates s arc n w k i j c   the same condition by condition, with the first k positions placed
 --   rank w k v                   placed vertices go by position and come before unplaced ones, which go by number
@@ -14,22 +16,38 @@ use mathlib.Core.Logic.{_⊎_}
 use mathlib.Core.Bool.{Bool, true, cond, not, _&&_}
 use mathlib.Core.List.{List}
 use lib.Dec.{T, ltb, eqb}
-use Rattle.bitset.specs.Below.{anyBelow, firstBelow}
-use Rattle.searches.specs.Kind.{Search, generic, bfs, dfs, lexBfs, lexDfs, mns}
+use Rattle.bitset.specs.Below.{anyBelow, firstBelow, countBelow}
+use Rattle.searches.specs.Kind.{Search, generic, bfs, dfs, lexBfs, lexDfs, mns, mcs}
 use Rattle.searches.specs.Ordering.{at, placed}
+use Rattle.searches.specs.Label.{label}
 
-unfoldable pub excuses : Search → ℕ → ℕ → Bool → Bool
-excuses generic i d inC = true
-excuses bfs i d inC = ltb d i
-excuses dfs i d inC = ltb i d
-excuses lexBfs i d inC = ltb d i && not inC
-excuses lexDfs i d inC = ltb i d && not inC
-excuses mns i d inC = not inC
+pub data Condition : Type 0 where
+  -- no d before b and linked to b passes the test on d's position and on whether d is linked to c
+  noneExcuses : (ℕ → Bool → Bool) → Condition
+  -- the numbers of c's and of b's neighbours before b pass the test
+  counted : (ℕ → ℕ → Bool) → Condition
+
+unfoldable pub condition : Search → ℕ → Condition
+condition generic i = noneExcuses (λ d inC. true)
+condition bfs i = noneExcuses (λ d inC. ltb d i)
+condition dfs i = noneExcuses (λ d inC. ltb i d)
+condition lexBfs i = noneExcuses (λ d inC. ltb d i && not inC)
+condition lexDfs i = noneExcuses (λ d inC. ltb i d && not inC)
+condition mns i = noneExcuses (λ d inC. not inC)
+condition mcs i = counted (λ ofC ofB. ltb ofB ofC)
+
+unfoldable pub meets : Condition → ℕ → (ℕ → Bool) → (ℕ → Bool) → Bool
+meets (noneExcuses excuses) k c b = not (anyBelow k (λ d. b d && excuses d (c d)))
+meets (counted test) k c b = test (countBelow k c) (countBelow k b)
+
+abbrev pub Meets : Condition → ℕ → (ℕ → Bool) → (ℕ → Bool) → Type 0
+Meets (noneExcuses excuses) k c b = (d : ℕ) → d < k → T (b d) → T (excuses d (c d)) → ⊥
+Meets (counted test) k c b = T (test (countBelow k c) (countBelow k b))
 
 unfoldable pub violates : Search → (ℕ → ℕ → Bool) → List ℕ → ℕ → ℕ → ℕ → Bool
 violates s arc w i j c =
     arc (at w i) c && not (arc (at w i) (at w j)) && not (placed w (suc j) c)
-    && not (anyBelow j (λ d. arc (at w d) (at w j) && excuses s i d (arc (at w d) c)))
+    && meets (condition s i) j (label arc w c) (label arc w (at w j))
 
 pub record Violates (s : Search) (arc : ℕ → ℕ → Bool) (n : ℕ) (w : List ℕ) (k i j c : ℕ) : Type 0 where
   -- a is placed before b, which is placed; c is a vertex
@@ -41,8 +59,8 @@ pub record Violates (s : Search) (arc : ℕ → ℕ → Bool) (n : ℕ) (w : Lis
   -- a and c are linked, a and b are not
   pub linked : T (arc (at w i) c)
   pub apart : T (arc (at w i) (at w j)) → ⊥
-  -- no d before b and linked to b excuses it
-  pub unexcused : (d : ℕ) → d < j → T (arc (at w d) (at w j)) → T (excuses s i d (arc (at w d) c)) → ⊥
+  -- the search's own condition
+  pub unexcused : Meets (condition s i) j (label arc w c) (label arc w (at w j))
 
 unfoldable pub rank : List ℕ → ℕ → ℕ → ℕ
 rank w k v = cond (placed w k v) (firstBelow k (λ p. eqb (at w p) v)) (k + v)

@@ -23,10 +23,12 @@ impl Kind {
     pub const LEX_DFS: Kind = Kind(4);
 
     pub const MNS: Kind = Kind(5);
+
+    pub const MCS: Kind = Kind(6);
 }
 
 // Three vertices that show where an ordering leaves its search (01: fault triple a, b, c): `b` was placed
-// although the earlier `a` leads to `c`, and not to `b`, and nothing excuses it.
+// although the earlier `a` leads to `c`, and not to `b`, and the search's own condition holds.
 pub struct Violation {
     pub a: Vertex,
     pub b: Vertex,

@@ -176,12 +176,12 @@ module _ (b : List ℕ) (x : Accepted b) where
       ∙ any-same (linksOf b) (λ i. joins (fromOf b i) (toOf b i) u v) (λ i. joins (fromOf b i) (toOf b i) v u) (λ i _. joins-back (fromOf b i) (toOf b i) u v)
       ∙ sym (arcs-read v u lv)
 
-  pub valid-rows : (kind : ℕ) → kind ≤ 5 → Accepts (openTests kind (rowsOf b))
+  pub valid-rows : (kind : ℕ) → kind ≤ 6 → Accepts (openTests kind (rowsOf b))
   unfolding openTests
   valid-rows kind known =
       let rows = rowsOf b in
       let long : length rows ≡ pointsOf b = length-read in (
-        λ t. let l = ltb→lt 5 kind t in omega arith,
+        λ t. let l = ltb→lt 6 kind t in omega arith,
         (
           λ t. let l = ltb→lt 64 (length rows) t in omega (arith, x .points),
           (

@@ -29,7 +29,7 @@ use Rattle.sheet.proofs.Links.{valid-graph, parts, fits, numberOf, numb
 -- ---- what is read is valid
 
 pub record ValidRead (b : List ℕ) : Type 0 where
-  pub graph : (kind : ℕ) → kind ≤ 5 → Accepts (openTests kind (rowsOf b))
+  pub graph : (kind : ℕ) → kind ≤ 6 → Accepts (openTests kind (rowsOf b))
   pub points : length (rowsOf b) ≡ pointsOf b
   pub words : (u : ℕ) → u < pointsOf b → at (rowsOf b) u < 2 ^ 64
   pub walk : IsOrdering (pointsOf b) (walkOf b) (placesOf b)
@@ -40,7 +40,7 @@ valid-read b e =
     record { graph = valid-rows b x; points = length-read b x; words = words-read b x; walk = x .walk }
 
 -- the verdict that is printed for a kind
-pub kinds-judged : (b : List ℕ) → readAnswer b ≡ none → (kind : ℕ) → kind ≤ 5
+pub kinds-judged : (b : List ℕ) → readAnswer b ≡ none → (kind : ℕ) → kind ≤ 6
     → judgeAnswer kind (rowsOf b) (walkOf b) ≡ judge (searchOf kind) (arcs (rowsOf b)) (length (rowsOf b)) (walkOf b) (length (walkOf b))
 unfolding walkOf
 kinds-judged b e kind l =

@@ -1,4 +1,6 @@
 pub mod Representation
+pub mod Tallying
+pub mod Growing
 pub mod Replaying
 pub mod Completing
 pub mod Searching

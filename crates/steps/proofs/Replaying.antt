@@ -1,5 +1,6 @@
 -- The replay of an ordering on words: its invariant, and how it goes on and ends.
---   Replaying s rows w k labels free reached j    j vertices are placed, none of which was beaten
+--   Replaying s rows w k labels placed free reached j    j vertices are placed, none of which was beaten
+--   replay-tallied                                what is counted then is the size of the labels
 --   replay-start, replay-next, replay-stop, replay-end
 -- Assumes nothing.
 use mathlib.Core.Path.{_≡_, refl, sym, ap, ap₂, _∙_, subst}
@@ -11,44 +12,53 @@ use native.Mathlib.Numerals.{add-one}
 use lib.Dec.{T}
 use lib.ListN.{length, getD}
 use Rattle.bitset.specs.Below.{firstBelow}
-use Rattle.bitset.specs.Word.{removed, united, common, fullBelow}
+use Rattle.bitset.specs.Word.{inserted, removed, united, common, fullBelow}
 use Rattle.bitset.proofs.Tests.{below-suc}
 use Rattle.bitset.proofs.Below.{first-unique}
 use Rattle.searches.specs.Kind.{Search}
 use Rattle.searches.specs.Ordering.{at}
-use Rattle.labels.specs.Words.{spreadTo, beatenIn}
+use Rattle.labels.specs.Words.{Tallied, spreadTo, beatenIn}
 use Rattle.labels.proofs.Reached.{beaten-reached}
-use Rattle.steps.specs.Steps.{labelsAfter, freeAfter, reachedAfter, stopsAt, Replayable}
+use Rattle.steps.specs.Steps.{labelsAfter, freeAfter, reachedAfter, placedAfter, stopsAt, Replayable}
 use Rattle.steps.proofs.Representation.{reached-covers}
+use Rattle.steps.proofs.Tallying.{tallied-after}
 
 module _ (s : Search) (rows w : List ℕ) (k : ℕ) where
-  pub record Replaying (labels : List ℕ) (free reached j : ℕ) : Type 0 where
+  pub record Replaying (labels : List ℕ) (placed free reached j : ℕ) : Type 0 where
     pub upto : j ≤ k
     pub labelled : labels ≡ labelsAfter rows w j
+    pub set : placed ≡ placedAfter w j
     pub unplaced : free ≡ freeAfter (length rows) w j
     pub met : reached ≡ reachedAfter rows w j
     pub unbeaten : (i : ℕ) → i < j → T (stopsAt s rows w i) → ⊥
 
-  pub replay-start : {labels : List ℕ} {free : ℕ} → Replayable rows w k labels → free ≡ fullBelow (length rows) → Replaying labels free 0 0
-  unfolding labelsAfter freeAfter reachedAfter
-  replay-start r e = record { upto = omega arith; labelled = r .empty; unplaced = e; met = refl; unbeaten = λ i l. absurd (omega arith) }
+  pub replay-start : {labels : List ℕ} {free : ℕ} → Replayable rows w k labels → free ≡ fullBelow (length rows) → Replaying labels 0 free 0 0
+  unfolding labelsAfter placedAfter freeAfter reachedAfter
+  replay-start r e = record { upto = omega arith; labelled = r .empty; set = refl; unplaced = e; met = refl; unbeaten = λ i l. absurd (omega arith) }
+
+  pub replay-tallied : {labels₀ labels : List ℕ} {placed free reached j : ℕ} → Replayable rows w k labels₀ → Replaying labels placed free reached j → Tallied rows labels placed
+  replay-tallied {labels = labels} {placed = placed} {j = j} x r =
+      subst (λ (y : ℕ). Tallied rows labels y) (sym (r .set))
+      (subst (λ (ls : List ℕ). Tallied rows ls (placedAfter w j)) (sym (r .labelled))
+      (tallied-after rows w k (x .small) (record { long = x .long; vertices = x .vertices; distinct = x .distinct }) (x .both-ways) j (r .upto)))
 
   -- what the code asks of the vertex b at position j
-  pub asked : {labels : List ℕ} {free reached j b front : ℕ} → Replaying labels free reached j → b ≡ at w j → front ≡ common free reached
+  pub asked : {labels : List ℕ} {placed free reached j b front : ℕ} → Replaying labels placed free reached j → b ≡ at w j → front ≡ common free reached
       → beatenIn s labels front (getD labels b 0) ≡ stopsAt s rows w j
   unfolding stopsAt
-  asked {labels} {free} {reached} {j} {b} {front} r h e =
+  asked {labels} {placed} {free} {reached} {j} {b} {front} r h e =
       beaten-reached s labels reached (reached-covers rows w j (r .labelled) (r .met)) free (getD labels b 0) e
       ∙ ap (λ (v : ℕ). beatenIn s labels free (getD labels v 0)) h
       ∙ ap₂ (λ (ls : List ℕ) (f : ℕ). beatenIn s ls f (getD ls (at w j) 0)) (r .labelled) (r .unplaced)
 
-  pub replay-next : {labels : List ℕ} {free reached j b : ℕ} (labels′ : List ℕ) (free′ reached′ : ℕ) → Replaying labels free reached j → j < k → b ≡ at w j
-      → (T (stopsAt s rows w j) → ⊥) → labels′ ≡ spreadTo (getD rows b 0) j (length rows) labels → free′ ≡ removed free b
-      → reached′ ≡ united reached (getD rows b 0) → Replaying labels′ free′ reached′ (j + 1)
-  unfolding labelsAfter freeAfter reachedAfter
-  replay-next {labels} {free} {reached} {j} {b} labels′ free′ reached′ r l h go-on e f g = subst (λ (m : ℕ). Replaying labels′ free′ reached′ m) (sym (add-one j)) (record {
+  pub replay-next : {labels : List ℕ} {placed free reached j b : ℕ} (labels′ : List ℕ) (placed′ free′ reached′ : ℕ) → Replaying labels placed free reached j → j < k → b ≡ at w j
+      → (T (stopsAt s rows w j) → ⊥) → labels′ ≡ spreadTo (getD rows b 0) j (length rows) labels → placed′ ≡ inserted placed b → free′ ≡ removed free b
+      → reached′ ≡ united reached (getD rows b 0) → Replaying labels′ placed′ free′ reached′ (j + 1)
+  unfolding labelsAfter placedAfter freeAfter reachedAfter
+  replay-next {labels} {placed} {free} {reached} {j} {b} labels′ placed′ free′ reached′ r l h go-on e i f g = subst (λ (m : ℕ). Replaying labels′ placed′ free′ reached′ m) (sym (add-one j)) (record {
     upto = l;
     labelled = e ∙ ap₂ (λ (v : ℕ) (ls : List ℕ). spreadTo (getD rows v 0) j (length rows) ls) h (r .labelled);
+    set = i ∙ ap₂ (λ (x v : ℕ). inserted x v) (r .set) h;
     unplaced = f ∙ ap₂ (λ (x v : ℕ). removed x v) (r .unplaced) h;
     met = g ∙ ap₂ (λ (x v : ℕ). united x (getD rows v 0)) (r .met) h;
     unbeaten = λ i h. before i (below-suc j i h);
@@ -58,8 +68,8 @@ module _ (s : Search) (rows w : List ℕ) (k : ℕ) where
       before i (inl h) t = r .unbeaten i h t
       before i (inr same) t = go-on (subst (λ (x : ℕ). T (stopsAt s rows w x)) same t)
 
-  pub replay-stop : {labels : List ℕ} {free reached j : ℕ} → Replaying labels free reached j → j < k → T (stopsAt s rows w j) → j ≡ firstBelow k (stopsAt s rows w)
+  pub replay-stop : {labels : List ℕ} {placed free reached j : ℕ} → Replaying labels placed free reached j → j < k → T (stopsAt s rows w j) → j ≡ firstBelow k (stopsAt s rows w)
   replay-stop r l t = first-unique (record { within = r .upto; holds = λ _. t; least = r .unbeaten })
 
-  pub replay-end : {labels : List ℕ} {free reached j : ℕ} → Replaying labels free reached j → k ≤ j → j ≡ firstBelow k (stopsAt s rows w)
+  pub replay-end : {labels : List ℕ} {placed free reached j : ℕ} → Replaying labels placed free reached j → k ≤ j → j ≡ firstBelow k (stopsAt s rows w)
   replay-end r l = first-unique (record { within = r .upto; holds = λ h. absurd (omega arith); least = r .unbeaten })

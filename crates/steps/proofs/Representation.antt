@@ -1,6 +1,6 @@
 -- The words hold the labels and the unplaced vertices of searches/, and what is computed on them is what is defined there.
 --   suc-split                                the positions below one more
---   cut-same, cut-below                      a set that ends at a bound;   outranks-cut   it is compared below it
+--   cut-same, cut-below                      a set that ends at a bound;   meets-cut, outranks-cut   it is compared below it
 --   spread-length, spread-at                 a position put into the labels of the vertices of a row
 --   member-joined                            what is then in one label
 --   labels-length, label-members             labelsAfter: 64 words, which hold the labels
@@ -21,13 +21,14 @@ use Rattle.bitset.specs.Below.{anyBelow}
 use Rattle.bitset.specs.Word.{member, inserted}
 use Rattle.bitset.proofs.Tests.{and-same, and-in, and-out, and-true, or-inl, or-inr, or-out, same-test, is-true, below-suc}
 use Rattle.bitset.proofs.Below.{any-fewer}
+use Rattle.bitset.proofs.Count.{count-fewer}
 use Rattle.bitset.proofs.Word as word
 use Rattle.searches.specs.Kind.{Search}
 use Rattle.searches.specs.Ordering.{arcs, at, placed, IsOrdering}
 use Rattle.searches.specs.Label.{label, outranks}
 use Rattle.searches.specs.Run.{offered}
-use Rattle.searches.specs.Violation.{excuses}
-use Rattle.searches.proofs.Reason.{Reason, outranks→reason, reason→outranks}
+use Rattle.searches.specs.Violation.{Condition, noneExcuses, counted, condition, meets}
+use Rattle.searches.proofs.Reason.{Reason, meets-in, meets-out, outranks→reason, reason→outranks}
 use Rattle.searches.proofs.Ordering.{ordering-fits}
 use Rattle.labels.specs.Words.{aheadIn, joinedIn, spreadTo, beatenIn, openIn, Covers}
 use Rattle.labels.proofs.Spreading.{spread-above}
@@ -68,19 +69,27 @@ module _ (j : ℕ) (f f′ : ℕ → Bool) (cut : (p : ℕ) → f p ≡ (ltb p j
   pub cut-below : (p : ℕ) → T (f p) → p < j
   cut-below p t = ltb→lt p j (and-out (ltb p j) (f′ p) (subst (λ (b : Bool). T b) (cut p) t) .0)
 
-module _ (s : Search) (j m : ℕ) (c b c′ b′ : ℕ → Bool) (l : j ≤ m) (c-cut : (p : ℕ) → c p ≡ (ltb p j && c′ p)) (b-cut : (p : ℕ) → b p ≡ (ltb p j && b′ p)) where
-  pub outranks-cut : outranks s m c b ≡ outranks s j c′ b′
-  outranks-cut =
+module _ (j m : ℕ) (c b c′ b′ : ℕ → Bool) (l : j ≤ m) (c-cut : (p : ℕ) → c p ≡ (ltb p j && c′ p)) (b-cut : (p : ℕ) → b p ≡ (ltb p j && b′ p)) where
+  c-same : (p : ℕ) → p < j → c p ≡ c′ p
+  c-same = cut-same j c c′ c-cut
+
+  b-same : (p : ℕ) → p < j → b p ≡ b′ p
+  b-same = cut-same j b b′ b-cut
+
+  pub meets-cut : (own : Condition) → meets own m c b ≡ meets own j c′ b′
+  unfolding meets
+  meets-cut (noneExcuses excuses) =
+      ap not (any-fewer j m l (λ d. b d && excuses d (c d)) (λ d. b′ d && excuses d (c′ d))
+      (λ d h. ap₂ (λ (x y : Bool). x && excuses d y) (b-same d h) (c-same d h)) (λ d t. cut-below j b b′ b-cut d (and-out (b d) (excuses d (c d)) t .0)))
+  meets-cut (counted test) =
+      ap₂ test (count-fewer j m l c c′ c-same (cut-below j c c′ c-cut)) (count-fewer j m l b b′ b-same (cut-below j b b′ b-cut))
+
+  pub outranks-cut : (s : Search) → outranks s m c b ≡ outranks s j c′ b′
+  outranks-cut s =
       same-test (outranks s m c b) (outranks s j c′ b′) (λ t. reason→outranks j c′ b′ s (forth (outranks→reason m c b s t)))
       (λ t. reason→outranks m c b s (back (outranks→reason j c′ b′ s t)))
     where
-      c-same : (p : ℕ) → p < j → c p ≡ c′ p
-      c-same = cut-same j c c′ c-cut
-
-      b-same : (p : ℕ) → p < j → b p ≡ b′ p
-      b-same = cut-same j b b′ b-cut
-
-      forth : Reason (excuses s) m c b → Reason (excuses s) j c′ b′
+      forth : Reason (condition s) m c b → Reason (condition s) j c′ b′
       forth r =
           let h = cut-below j c c′ c-cut (r .position) (r .ours) in
           record {
@@ -88,20 +97,20 @@ module _ (s : Search) (j m : ℕ) (c b c′ b′ : ℕ → Bool) (l : j ≤ m) (
             below = h;
             ours = subst (λ (x : Bool). T x) (c-same (r .position) h) (r .ours);
             theirs = λ t. r .theirs (subst (λ (x : Bool). T x) (sym (b-same (r .position) h)) t);
-            unexcused = λ d i t e.
-                r .unexcused d (omega arith) (subst (λ (x : Bool). T x) (sym (b-same d i)) t)
-                (subst (λ (inC : Bool). T (excuses s (r .position) d inC)) (sym (c-same d i)) e);
+            unexcused =
+                let own = condition s (r .position) in
+                meets-out j c′ b′ own (subst (λ (x : Bool). T x) (meets-cut own) (meets-in m c b own (r .unexcused)));
           }
 
-      back : Reason (excuses s) j c′ b′ → Reason (excuses s) m c b
+      back : Reason (condition s) j c′ b′ → Reason (condition s) m c b
       back r = record {
         position = r .position;
         below = omega (arith, r .below);
         ours = subst (λ (x : Bool). T x) (sym (c-same (r .position) (r .below))) (r .ours);
         theirs = λ t. r .theirs (subst (λ (x : Bool). T x) (b-same (r .position) (r .below)) t);
-        unexcused = λ d i t e.
-            let h = cut-below j b b′ b-cut d t in
-            r .unexcused d h (subst (λ (x : Bool). T x) (b-same d h) t) (subst (λ (inC : Bool). T (excuses s (r .position) d inC)) (c-same d h) e);
+        unexcused =
+            let own = condition s (r .position) in
+            meets-out m c b own (subst (λ (x : Bool). T x) (sym (meets-cut own)) (meets-in j c′ b′ own (r .unexcused)));
       }
 
 -- ---- one position put into the labels
@@ -216,8 +225,8 @@ module _ (s : Search) (rows w : List ℕ) (k : ℕ) (small : length rows ≤ 64)
       → aheadIn s (getD (labels j) u 0) (getD (labels j) v 0) ≡ outranks s j (label arc w u) (label arc w v)
   unfolding aheadIn
   ahead-same j u v h a b =
-      outranks-cut s j 64 (member (getD (labels j) u 0)) (member (getD (labels j) v 0)) (label arc w u) (label arc w v)
-      (omega (arith, ordering-fits n o)) (label-members rows w k small o j h u a) (label-members rows w k small o j h v b)
+      outranks-cut j 64 (member (getD (labels j) u 0)) (member (getD (labels j) v 0)) (label arc w u) (label arc w v)
+      (omega (arith, ordering-fits n o)) (label-members rows w k small o j h u a) (label-members rows w k small o j h v b) s
 
   pub beaten-same : (j v : ℕ) → j ≤ k → v < n
       → beatenIn s (labels j) (free j) (getD (labels j) v 0)

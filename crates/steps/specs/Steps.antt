@@ -2,19 +2,24 @@
 --   labelsAfter rows w j          the labels after the first j vertices of w
 --   freeAfter n w j               the vertices below n that are not among the first j of w
 --   reachedAfter rows w j         the vertices that the first j of w lead to
+--   placedAfter w j               the first j vertices of w                                             [01: the placed mask]
 --   frontIn rows free a b         the free vertices that a leads to; none where it leads to b, too
 --   stopsAt s rows w j            the vertex at position j of w is beaten when its turn comes
 --   violatesIn s rows w labels free j i c   the vertices at i and j and c are a violation, seen at j's turn
 --   lastIn, firstIn               candidate e for c, position i of a take part in one
 --   firstFault s rows w labels free j k   the first violation with the vertex at position j, as judge shows it
---   completesIn s labels front i mine c   c is one of `front`, and nothing in b's label `mine` excuses position i against c's
+--   completesIn s labels front i mine c   c is one of `front`, and with b's label `mine` nothing excuses position i against c's
 --   behindIn s labels front i mine w j p  p is behind j, and the vertex there is such a c
 --   lastOf s labels front i mine w j k    the first such c: by position behind j, where there is none by number
 --   fillIn s rows t m p labels free   the m vertices chosen from position p on
---   Replayable rows w k labels    the first k entries of w are vertices of a graph of at most 64, and the labels are empty
---   Searchable rows w k free j    likewise, j is one of the first k positions, and free the vertices that are unplaced at its turn
+--   BothWays rows                 every link goes both ways
+--   Replayable rows w k labels    the first k entries of w are distinct vertices of a two-way graph of at most 64, and the labels are empty
+--   Searchable rows w k labels placed free j   the first k entries of w are vertices, j is one of these positions, free the vertices that are
+--                                 unplaced at its turn, and the labels are as large as `placed` says
 --   Positioned w k j i            w has k positions, j is one of them, and i is the number of a bit of a label
---   Fillable rows tail k labels reached   tail has room for the vertices from position k on, and nobody outside `reached` has a label
+--   Along rows p labels placed free   the words are those after the p vertices of an ordering
+--   Fillable rows t tail k labels placed free reached   t is a tie-break, tail has room for the vertices from position k on, the words are those
+--                                 after k vertices, and nobody outside `reached` has a label
 use Prim.Native.Nat.{ℕ, zero, suc, _+_, _-_, _≤_, _<_}
 use mathlib.Core.Path.{_≡_}
 use mathlib.Core.Bool.{Bool, cond, not, _&&_}
@@ -22,11 +27,11 @@ use mathlib.Core.List.{List, [], _∷_}
 use lib.Dec.{eqb, ltb}
 use lib.ListN.{length, getD, replicate}
 use Rattle.bitset.specs.Below.{anyBelow, firstBelow}
-use Rattle.bitset.specs.Word.{member, removed, united, common, fullBelow}
+use Rattle.bitset.specs.Word.{member, inserted, removed, united, common, fullBelow}
 use Rattle.searches.specs.Kind.{Search}
-use Rattle.searches.specs.Ordering.{arcs, at}
+use Rattle.searches.specs.Ordering.{arcs, at, IsOrdering, IsFullOrdering}
 use Rattle.searches.specs.Violation.{third, Verdict, fails}
-use Rattle.labels.specs.Words.{unexcusedIn, spreadTo, beatenIn, chosenIn, Covers}
+use Rattle.labels.specs.Words.{Tallied, unexcusedIn, spreadTo, beatenIn, chosenIn, Covers}
 
 unfoldable pub labelsAfter : List ℕ → List ℕ → ℕ → List ℕ
 labelsAfter rows w zero = replicate 64 0
@@ -39,6 +44,10 @@ freeAfter n w (suc j) = removed (freeAfter n w j) (at w j)
 unfoldable pub reachedAfter : List ℕ → List ℕ → ℕ → ℕ
 reachedAfter rows w zero = 0
 reachedAfter rows w (suc j) = united (reachedAfter rows w j) (getD rows (at w j) 0)
+
+unfoldable pub placedAfter : List ℕ → ℕ → ℕ
+placedAfter w zero = 0
+placedAfter w (suc j) = inserted (placedAfter w j) (at w j)
 
 unfoldable pub frontIn : List ℕ → ℕ → ℕ → ℕ → ℕ
 frontIn rows free a b = cond (arcs rows a b) 0 (common (getD rows a 0) free)
@@ -85,28 +94,45 @@ module _ (s : Search) where
       let v = chosenIn s labels free t in
       v ∷ fillIn rows t m (suc p) (spreadTo (getD rows v 0) p (length rows) labels) (removed free v)
 
+abbrev pub BothWays : List ℕ → Type 0
+BothWays rows = (u v : ℕ) → u < length rows → v < length rows → arcs rows u v ≡ arcs rows v u
+
 pub record Replayable (rows w : List ℕ) (k : ℕ) (labels : List ℕ) : Type 0 where
   pub long : k ≤ length w
   pub fits : k ≤ length rows
   pub small : length rows ≤ 64
   pub vertices : (p : ℕ) → p < k → at w p < length rows
+  pub distinct : (p q : ℕ) → p < q → q < k → at w p ≡ at w q → ⊥
+  pub both-ways : BothWays rows
   pub empty : labels ≡ replicate 64 0
 
-pub record Searchable (rows w : List ℕ) (k free j : ℕ) : Type 0 where
+pub record Searchable (rows w : List ℕ) (k : ℕ) (labels : List ℕ) (placed free j : ℕ) : Type 0 where
   pub long : k ≤ length w
   pub inside : j < k
   pub fits : k ≤ length rows
   pub small : length rows ≤ 64
   pub vertices : (p : ℕ) → p < k → at w p < length rows
   pub unplaced : free ≡ freeAfter (length rows) w j
+  pub tallied : Tallied rows labels placed
 
 pub record Positioned (w : List ℕ) (k j i : ℕ) : Type 0 where
   pub long : k ≤ length w
   pub inside : j < k
   pub bit : i < 64
 
-pub record Fillable (rows tail : List ℕ) (k : ℕ) (labels : List ℕ) (reached : ℕ) : Type 0 where
+pub record Along (rows : List ℕ) (p : ℕ) (labels : List ℕ) (placed free : ℕ) : Type 0 where
+  pub walk : List ℕ
+  pub long : length walk ≡ p
+  pub ordering : IsOrdering (length rows) walk p
+  pub labelled : labels ≡ labelsAfter rows walk p
+  pub set : placed ≡ placedAfter walk p
+  pub unplaced : free ≡ freeAfter (length rows) walk p
+
+pub record Fillable (rows t tail : List ℕ) (k : ℕ) (labels : List ℕ) (placed free reached : ℕ) : Type 0 where
   pub fits : k ≤ length rows
   pub small : length rows ≤ 64
+  pub both-ways : BothWays rows
+  pub names : IsFullOrdering (length rows) t
   pub room : length rows - k ≤ length tail
+  pub along : Along rows k labels placed free
   pub covers : Covers reached labels

@@ -1,17 +1,19 @@
 // An ordering placed again, vertex by vertex, until one was not offered.
 use crate::lookup::row_of;
 use crate::lookup::vertex_at;
+use labels::profile::profile_of;
 use searches::Kind;
 use searches::Position;
 ghost use mathlib.Core.Path.{_≡_};
 ghost use lib.ListN.{length};
 ghost use Rattle.bitset.specs.Below.{firstBelow};
 ghost use Rattle.searches.specs.Kind.{searchOf};
-ghost use Rattle.steps.specs.Steps.{labelsAfter, freeAfter, reachedAfter, stopsAt, Replayable};
+ghost use Rattle.steps.specs.Steps.{labelsAfter, placedAfter, freeAfter, reachedAfter, stopsAt, Replayable};
 
-// How many vertices a replay placed, which were then unplaced, and which the placed ones lead to.
+// How many vertices a replay placed, which these are, which were then unplaced, and which the placed ones lead to.
 pub struct Placed {
     pub count: usize,
+    pub set: u64,
     pub free: u64,
     pub reached: u64,
 }
@@ -21,29 +23,34 @@ pub struct Placed {
 pub fn replay(kind: Kind, rows: &[u64], ordering: &[u8], k: usize, labels: &mut [u64; 64]) -> Placed
     requires { ⌜ Replayable (now rows) (now ordering) k (now labels) ⌝ }
     ensures count { λ r. ⌜ r .count ≡ firstBelow k (stopsAt (searchOf (kind .0)) (now (rows .entry)) (now (ordering .entry))) ⌝ }
+    ensures set { λ r. ⌜ r .set ≡ placedAfter (now (ordering .entry)) (r .count) ⌝ }
     ensures free { λ r. ⌜ r .free ≡ freeAfter (length (now (rows .entry))) (now (ordering .entry)) (r .count) ⌝ }
     ensures reached { λ r. ⌜ r .reached ≡ reachedAfter (now (rows .entry)) (now (ordering .entry)) (r .count) ⌝ }
     ensures labels { λ r. ⌜ now (labels .exit) ≡ labelsAfter (now (rows .entry)) (now (ordering .entry)) (r .count) ⌝ }
 {
+    let mut set = 0u64;
     let mut free = bitset::full_below(rows.len());
     let mut reached = 0u64;
     for j in 0..k {
         let b = vertex_at(ordering, Position(j));
-        let mine = labels[b.0 as usize];
-        if labels::is_beaten(kind, labels, bitset::common(free, reached), mine) {
+        let mine = profile_of(kind, rows, labels, set, b);
+        if labels::is_beaten(kind, rows, labels, set, bitset::common(free, reached), mine) {
             return Placed {
                 count: j,
+                set,
                 free,
                 reached,
             };
         }
         let row = row_of(rows, b);
         labels::spread(labels, row, Position(j), rows.len());
+        set = bitset::insert(set, b.0 as usize);
         free = bitset::remove(free, b.0 as usize);
         reached = bitset::union(reached, row);
     }
     Placed {
         count: k,
+        set,
         free,
         reached,
     }

@@ -2,6 +2,8 @@
 // by number.
 use crate::lookup::row_of;
 use crate::lookup::vertex_at;
+use labels::profile::Profile;
+use labels::profile::profile_of;
 use searches::Kind;
 use searches::Position;
 use searches::Vertex;
@@ -13,6 +15,7 @@ ghost use Rattle.bitset.specs.Below.{anyBelow, firstBelow};
 ghost use Rattle.searches.specs.Kind.{searchOf};
 ghost use Rattle.searches.specs.Answer.{verdictOf};
 ghost use Rattle.searches.specs.declared.Judgement.{Judgement};
+ghost use Rattle.labels.specs.Words.{Tallied, profileOf};
 ghost use Rattle.steps.specs.Steps.{frontIn, completesIn, behindIn, lastOf, firstIn, Searchable, Positioned, firstFault};
 
 // The vertices of `free` that `a` leads to; none where `a` leads to `b`, too.
@@ -27,30 +30,46 @@ fn front_of(rows: &[u64], free: u64, a: Vertex, b: Vertex) -> u64
     }
 }
 
-// Whether `c` completes a violation with the vertex at position `i` and one whose label is `mine`: it is in the front of these two, and nothing
-// in `mine` excuses position `i` against its label.
-fn completes(kind: Kind, labels: &[u64; 64], front: u64, i: Position, mine: u64, c: Vertex) -> bool
-    requires { ⌜ i .0 < 64 ⌝ }
-    ensures { λ r. ⌜ r ≡ completesIn (searchOf (kind .0)) (now (labels .entry)) front (i .0) mine (c .0) ⌝ }
+// Whether `c` completes a violation with the vertex at position `i` and one whose profile is `mine`: it is in the front of these two, and nothing
+// excuses position `i` against its label.
+fn completes(
+    kind: Kind,
+    rows: &[u64],
+    labels: &[u64; 64],
+    placed: u64,
+    front: u64,
+    i: Position,
+    mine: Profile,
+    c: Vertex,
+) -> bool
+    requires { ⌜ (i .0 < 64) × (mine ≡ profileOf (searchOf (kind .0)) (mine .label)) × Tallied (now rows) (now labels) placed ⌝ }
+    ensures { λ r. ⌜ r ≡ completesIn (searchOf (kind .0)) (now (labels .entry)) front (i .0) (mine .label) (c .0) ⌝ }
 {
     let last = c.0 as usize;
     if !bitset::contains(front, last) {
         return false;
     }
-    labels::is_unexcused(kind, i, labels[last], mine)
+    labels::is_unexcused(kind, i, profile_of(kind, rows, labels, placed, c), mine)
 }
 
 // Of the vertices that complete a violation the one with the smallest number; 64 where there is none.
-fn first_by_number(kind: Kind, labels: &[u64; 64], front: u64, i: Position, mine: u64) -> Vertex
-    requires { ⌜ i .0 < 64 ⌝ }
-    ensures { λ r. ⌜ r .0 ≡ firstBelow 64 (completesIn (searchOf (kind .0)) (now (labels .entry)) front (i .0) mine) ⌝ }
+fn first_by_number(
+    kind: Kind,
+    rows: &[u64],
+    labels: &[u64; 64],
+    placed: u64,
+    front: u64,
+    i: Position,
+    mine: Profile,
+) -> Vertex
+    requires { ⌜ (i .0 < 64) × (mine ≡ profileOf (searchOf (kind .0)) (mine .label)) × Tallied (now rows) (now labels) placed ⌝ }
+    ensures { λ r. ⌜ r .0 ≡ firstBelow 64 (completesIn (searchOf (kind .0)) (now (labels .entry)) front (i .0) (mine .label)) ⌝ }
 {
     let mut rest = front;
     while rest != 0 {
-        let c = bitset::smallest(rest);
-        if labels::is_unexcused(kind, i, labels[c], mine) {
-            let number = c as u8;
-            return Vertex(number);
+        let c = Vertex(bitset::smallest(rest) as u8);
+        if labels::is_unexcused(kind, i, profile_of(kind, rows, labels, placed, c), mine) {
+            return c;
         }
         rest = bitset::without_smallest(rest);
     }
@@ -60,22 +79,24 @@ fn first_by_number(kind: Kind, labels: &[u64; 64], front: u64, i: Position, mine
 // The first position behind `j` and below `k` with a vertex that completes a violation; `k` where there is none.
 fn first_by_position(
     kind: Kind,
+    rows: &[u64],
     ordering: &[u8],
     k: usize,
     labels: &[u64; 64],
+    placed: u64,
     front: u64,
     j: Position,
     i: Position,
-    mine: u64,
+    mine: Profile,
 ) -> Position
-    requires { ⌜ Positioned (now ordering) k (j .0) (i .0) ⌝ }
-    ensures { λ r. ⌜ r .0 ≡ firstBelow k (behindIn (searchOf (kind .0)) (now (labels .entry)) front (i .0) mine (now (ordering .entry)) (j .0)) ⌝ }
+    requires { ⌜ Positioned (now ordering) k (j .0) (i .0) × (mine ≡ profileOf (searchOf (kind .0)) (mine .label)) × Tallied (now rows) (now labels) placed ⌝ }
+    ensures { λ r. ⌜ r .0 ≡ firstBelow k (behindIn (searchOf (kind .0)) (now (labels .entry)) front (i .0) (mine .label) (now (ordering .entry)) (j .0)) ⌝ }
 {
     let middle = j.0;
     let behind = middle + 1;
     for p in behind..k {
         let c = vertex_at(ordering, Position(p));
-        if completes(kind, labels, front, i, mine, c) {
+        if completes(kind, rows, labels, placed, front, i, mine, c) {
             return Position(p);
         }
     }
@@ -85,22 +106,24 @@ fn first_by_position(
 // The third vertex of the first violation: by position behind `j`, and where none is found there by number.
 fn first_last(
     kind: Kind,
+    rows: &[u64],
     ordering: &[u8],
     k: usize,
     labels: &[u64; 64],
+    placed: u64,
     front: u64,
     j: Position,
     i: Position,
-    mine: u64,
+    mine: Profile,
 ) -> Vertex
-    requires { ⌜ Positioned (now ordering) k (j .0) (i .0) ⌝ }
-    ensures { λ r. ⌜ r .0 ≡ lastOf (searchOf (kind .0)) (now (labels .entry)) front (i .0) mine (now (ordering .entry)) (j .0) k ⌝ }
+    requires { ⌜ Positioned (now ordering) k (j .0) (i .0) × (mine ≡ profileOf (searchOf (kind .0)) (mine .label)) × Tallied (now rows) (now labels) placed ⌝ }
+    ensures { λ r. ⌜ r .0 ≡ lastOf (searchOf (kind .0)) (now (labels .entry)) front (i .0) (mine .label) (now (ordering .entry)) (j .0) k ⌝ }
 {
-    let position = first_by_position(kind, ordering, k, labels, front, j, i, mine);
+    let position = first_by_position(kind, rows, ordering, k, labels, placed, front, j, i, mine);
     if position.0 < k {
         return vertex_at(ordering, position);
     }
-    first_by_number(kind, labels, front, i, mine)
+    first_by_number(kind, rows, labels, placed, front, i, mine)
 }
 
 // The first position of a vertex that starts a violation with the vertex at position `j`; `j` where there is none.
@@ -110,21 +133,22 @@ fn first_first(
     ordering: &[u8],
     k: usize,
     labels: &[u64; 64],
+    placed: u64,
     free: u64,
     j: Position,
 ) -> Position
-    requires { ⌜ Searchable (now rows) (now ordering) k free (j .0) ⌝ }
+    requires { ⌜ Searchable (now rows) (now ordering) k (now labels) placed free (j .0) ⌝ }
     ensures { λ r. ⌜
         r .0 ≡ firstBelow (j .0) (firstIn (searchOf (kind .0)) (now (rows .entry)) (now (ordering .entry)) (now (labels .entry)) free (j .0) k)
         ⌝ }
 {
     let b = vertex_at(ordering, j);
-    let mine = labels[b.0 as usize];
+    let mine = profile_of(kind, rows, labels, placed, b);
     let middle = j.0;
     for i in 0..middle {
         let a = vertex_at(ordering, Position(i));
         let front = front_of(rows, free, a, b);
-        let c = first_by_number(kind, labels, front, Position(i), mine);
+        let c = first_by_number(kind, rows, labels, placed, front, Position(i), mine);
         if c.0 < 64 {
             return Position(i);
         }
@@ -132,26 +156,28 @@ fn first_first(
     j
 }
 
-// The first violation with the vertex at position `j`, which has one. `labels` and `free` are those of its turn.
+// The first violation with the vertex at position `j`, which has one. `labels`, `placed` and `free` are those of its turn.
 pub fn first_violation(
     kind: Kind,
     rows: &[u64],
     ordering: &[u8],
     k: usize,
     labels: &[u64; 64],
+    placed: u64,
     free: u64,
     j: Position,
 ) -> Violation
-    requires { ⌜ Searchable (now rows) (now ordering) k free (j .0) × T (anyBelow (j .0) (firstIn (searchOf (kind .0)) (now rows) (now ordering) (now labels) free (j .0) k)) ⌝ }
+    requires { ⌜ Searchable (now rows) (now ordering) k (now labels) placed free (j .0) × T (anyBelow (j .0) (firstIn (searchOf (kind .0)) (now rows) (now ordering) (now labels) free (j .0) k)) ⌝ }
     ensures { λ r. ⌜
         verdictOf (Judgement.Fails r)
         ≡ firstFault (searchOf (kind .0)) (now (rows .entry)) (now (ordering .entry)) (now (labels .entry)) free (j .0) k
         ⌝ }
 {
-    let i = first_first(kind, rows, ordering, k, labels, free, j);
+    let i = first_first(kind, rows, ordering, k, labels, placed, free, j);
     let a = vertex_at(ordering, i);
     let b = vertex_at(ordering, j);
     let front = front_of(rows, free, a, b);
-    let c = first_last(kind, ordering, k, labels, front, j, i, labels[b.0 as usize]);
+    let mine = profile_of(kind, rows, labels, placed, b);
+    let c = first_last(kind, rows, ordering, k, labels, placed, front, j, i, mine);
     Violation { a, b, c }
 }

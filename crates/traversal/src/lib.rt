@@ -87,7 +87,14 @@ impl Traversal {
                 outcome: Outcome::Refused(Refusal::MalformedTraversal),
             };
         }
-        let set = offers::open_below(kind, &moment.labels, moment.free, n);
+        let set = offers::open_below(
+            kind,
+            &rows[..n],
+            &moment.labels,
+            moment.placed,
+            moment.free,
+            n,
+        );
         Offering {
             traversal: self,
             set,

@@ -36,7 +36,14 @@ pub fn place_refusal(
     if !bitset::contains(moment.free, v) {
         return Outcome::Refused(Refusal::AlreadyPlaced);
     }
-    if !offers::is_open(kind, &moment.labels, moment.free, vertex) {
+    if !offers::is_open(
+        kind,
+        &rows[..n],
+        &moment.labels,
+        moment.placed,
+        moment.free,
+        vertex,
+    ) {
         return Outcome::Refused(Refusal::NotOffered);
     }
     Outcome::Done

@@ -190,4 +190,5 @@ fn main() {
     line(3);
     line(4);
     line(5);
+    line(6);
 }

@@ -1,7 +1,7 @@
 //! A walk that grows, and the points that may come next.
 
 use super::{below, holds, Graph};
-use crate::definition::{Kind, BFS, DFS, GENERIC, LEX_BFS, LEX_DFS};
+use crate::definition::{Kind, BFS, DFS, GENERIC, LEX_BFS, MCS, MNS};
 
 /// A walk that grows: which points are placed, and where the search goes on.
 pub struct Search<'a> {
@@ -10,13 +10,24 @@ pub struct Search<'a> {
     ordering: [u8; 64],
     length: usize,
     unplaced: u64,
-    /// Generic: the neighbours of placed points.
+    /// The neighbours of placed points.
     reached: u64,
     /// BFS: the first place whose point may have unplaced neighbours.
     head: usize,
     /// DFS: the points that may have unplaced neighbours, the latest on top.
     stack: [u8; 64],
     depth: usize,
+}
+
+/// The largest value that the points of a set have, or 0.
+fn largest(set: u64, value: impl Fn(u8) -> u32) -> u32 {
+    let mut rest = set;
+    let mut most = 0;
+    while rest != 0 {
+        most = most.max(value(rest.trailing_zeros() as u8));
+        rest &= rest - 1;
+    }
+    most
 }
 
 impl<'a> Search<'a> {
@@ -81,7 +92,7 @@ impl<'a> Search<'a> {
         0
     }
 
-    /// The offered points, for every kind but MNS.
+    /// The offered points, for every kind but MNS and MCS.
     fn offered(&mut self) -> u64 {
         let found = match self.kind {
             GENERIC => self.reached & self.unplaced,
@@ -112,29 +123,48 @@ impl<'a> Search<'a> {
         all_of_b & one_more == 0
     }
 
-    pub fn is_offered(&mut self, b: u8) -> bool {
-        if self.kind <= LEX_DFS {
-            holds(self.offered(), b)
+    /// MCS: how many neighbours of v are placed.
+    fn placed_neighbours(&self, v: u8) -> u32 {
+        (self.graph.row(v) & !self.unplaced).count_ones()
+    }
+
+    /// The unplaced points with a placed neighbour; all unplaced points where there is none.
+    fn candidates(&self) -> u64 {
+        let found = self.reached & self.unplaced;
+        if found != 0 {
+            found
         } else {
-            self.maximal(b)
+            self.unplaced
+        }
+    }
+
+    pub fn is_offered(&mut self, b: u8) -> bool {
+        match self.kind {
+            MNS => self.maximal(b),
+            MCS => {
+                let most = largest(self.candidates(), |v| self.placed_neighbours(v));
+                self.placed_neighbours(b) == most
+            }
+            _ => holds(self.offered(), b),
         }
     }
 
     /// The offered point that stands last in the preference list.
     pub fn last_offered(&mut self, tie_break: &[u8], rank: &[u8; 64]) -> u8 {
-        if self.kind > LEX_DFS {
-            let found = self.reached & self.unplaced;
-            let candidates = if found != 0 { found } else { self.unplaced };
-            let may_come = |v: &&u8| holds(candidates, **v) && self.maximal(**v);
-            return *tie_break.iter().rfind(may_come).unwrap();
+        let rank = |v: u8| rank[(v & 63) as usize] as u32;
+        match self.kind {
+            MNS => {
+                let candidates = self.candidates();
+                let may_come = |v: &&u8| holds(candidates, **v) && self.maximal(**v);
+                *tie_break.iter().rfind(may_come).unwrap()
+            }
+            MCS => {
+                // A rank has six bits.
+                let count_and_rank = |v: u8| self.placed_neighbours(v) << 6 | rank(v);
+                let last = largest(self.candidates(), count_and_rank) & 63;
+                tie_break[last as usize]
+            }
+            _ => tie_break[largest(self.offered(), rank) as usize],
         }
-        let mut rest = self.offered();
-        let mut last = 0;
-        while rest != 0 {
-            let v = rest.trailing_zeros() as usize;
-            last = last.max(rank[v]);
-            rest &= rest - 1;
-        }
-        tie_break[last as usize]
     }
 }

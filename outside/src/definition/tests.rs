@@ -28,11 +28,15 @@ fn kinds_compare_labels_by_their_own_rule() {
     let early = [true, false, false];
     let late = [false, true, true];
     let ahead = |c: &[bool], b: &[bool]| KINDS.map(|kind| outranks(kind, c, b));
-    assert_eq!(ahead(&early, &late), [false, true, false, true, false, false]);
-    assert_eq!(ahead(&late, &early), [false, false, true, false, true, false]);
+    assert_eq!(ahead(&early, &late), [false, true, false, true, false, false, false]);
+    assert_eq!(ahead(&late, &early), [false, false, true, false, true, false, true]);
     let both = [true, true, true];
-    assert_eq!(ahead(&both, &early), [false, false, true, true, true, true]);
-    assert_eq!(ahead(&both, &late), [false, true, false, true, true, true]);
+    assert_eq!(ahead(&both, &early), [false, false, true, true, true, true, true]);
+    assert_eq!(ahead(&both, &late), [false, true, false, true, true, true, true]);
+    let first = [false, true, false];
+    let last = [false, false, true];
+    assert_eq!(ahead(&first, &last), [false, true, false, true, false, false, false]);
+    assert_eq!(ahead(&last, &first), [false, false, true, false, true, false, false]);
 }
 
 #[test]
@@ -95,8 +99,47 @@ fn judge_answers_the_printed_example() {
     let plan = graphs::plan(4, &[(0, 1), (0, 2), (1, 3)]);
     let fails = failed((1, 2, 3));
     let answers = KINDS.map(|kind| judge(kind, &plan, &[0, 1, 2, 3]));
-    assert_eq!(answers, [0, 0, fails, 0, fails, 0]);
+    assert_eq!(answers, [0, 0, fails, 0, fails, 0, 0]);
     assert_eq!(fails, 16_777_216 + 65_536 + 512 + 3);
+}
+
+#[test]
+fn mcs_answers_the_examples_of_01() {
+    let p = graphs::plan(4, &[(0, 1), (0, 2), (1, 3)]);
+    let c = graphs::plan(4, &[(0, 1), (1, 2), (2, 3), (0, 3)]);
+    let pair = graphs::plan(3, &[(0, 1)]);
+    for (plan, walk) in [(&p, [0, 1, 2, 3]), (&p, [0, 1, 3, 2]), (&c, [0, 1, 2, 3])] {
+        assert_eq!(judge(MCS, plan, &walk), 0);
+    }
+    assert_eq!(judge(MCS, &c, &[0, 1, 3, 2]), 0);
+    assert_eq!(judge(MCS, &p, &[2, 1]), failed((2, 1, 0)));
+    let later = graphs::plan(4, &[(0, 1), (0, 2), (0, 3), (1, 3)]);
+    assert_eq!(judge(MCS, &later, &[0, 1, 2, 3]), failed((1, 2, 3)));
+    let earlier = graphs::plan(4, &[(0, 1), (0, 3), (1, 2), (1, 3)]);
+    assert_eq!(judge(MCS, &earlier, &[0, 1, 2, 3]), failed((0, 2, 3)));
+    assert_eq!(judge(MCS, &pair, &[0, 2]), failed((0, 2, 1)));
+    assert_eq!(judge(MCS, &pair, &[2, 0, 1]), 0);
+}
+
+#[test]
+fn mcs_offers_the_points_with_the_most_placed_neighbours() {
+    // After 0, 1, 2 point 3 has the neighbour 0, and 4 has 1 and 2.
+    let plan = graphs::plan(5, &[(0, 1), (0, 2), (0, 3), (1, 4), (2, 4)]);
+    let graph = Graph::from_plan(&plan);
+    assert_eq!(offered(MCS, &graph, &[0, 1]), [2, 3, 4]);
+    assert_eq!(offered(MCS, &graph, &[0, 1, 2]), [4]);
+    assert_eq!(offered(MNS, &graph, &[0, 1, 2]), [3, 4]);
+    assert_eq!(judge(MCS, &plan, &[0, 1, 2, 3, 4]), failed((1, 3, 4)));
+    let tie_break = [4, 2, 1, 0, 3];
+    assert_eq!(carry_on(MCS, &plan, &tie_break, &[0, 1, 2, 9, 9], 3), (0, vec![0, 1, 2, 4, 3]));
+    assert_eq!(carry_on(MNS, &plan, &tie_break, &[0, 1, 2, 9, 9], 3), (0, vec![0, 1, 2, 3, 4]));
+}
+
+#[test]
+fn mcs_counts_only_neighbours_before_b() {
+    // Of the neighbours 1, 2, 4 of point 3 only 1 is placed before 2.
+    let plan = graphs::plan(5, &[(0, 1), (0, 2), (1, 3), (2, 3), (3, 4)]);
+    assert_eq!(judge(MCS, &plan, &[0, 1, 2, 3, 4]), 0);
 }
 
 #[test]
@@ -111,7 +154,9 @@ fn preference_list_is_read_from_its_end() {
 fn judge_refuses_in_order() {
     let link = graphs::plan(2, &[(0, 1)]);
     let rows = |rows: &[u64]| -> Vec<u8> { rows.iter().flat_map(|r| r.to_le_bytes()).collect() };
-    assert_eq!(judge(6, &[0; 9], &[7, 7, 7]), 1);
+    assert_eq!(judge(7, &[0; 9], &[7, 7, 7]), 1);
+    assert_eq!(judge(255, &link, &[1, 0]), 1);
+    assert_eq!(judge(6, &[255; 9], &[7, 7, 7]), 2);
     assert_eq!(judge(0, &[255; 9], &[7, 7, 7]), 2);
     assert_eq!(judge(0, &[255; 520], &[]), 2);
     assert_eq!(judge(0, &rows(&[1, 4]), &[7, 7, 7]), 3);

@@ -4,10 +4,10 @@ use super::svg::{Point, Svg};
 use crate::definition::KIND_NAMES;
 use crate::tables::{self, Row, Times};
 
-const WIDTH: f64 = 200.0;
+const WIDTH: f64 = 165.0;
 const HEIGHT: f64 = 160.0;
-/// The upper left corners of the panels.
-const COLUMNS: [f64; 3] = [80.0, 305.0, 530.0];
+/// The upper left corners of the panels, which fill one line after the other.
+const COLUMNS: [f64; 4] = [80.0, 265.0, 450.0, 635.0];
 const LINES: [f64; 2] = [105.0, 325.0];
 
 const TITLE: &str = "Time of one judge call, 64 rotating inputs (logarithmic scales)";
@@ -122,18 +122,19 @@ impl Scales {
 pub fn draw(benchmarks: &str) -> Result<String, String> {
     let rows = tables::read(benchmarks, tables::ROTATING)?;
     let scales = Scales::of(&rows);
-    let mut svg = Svg::new(750, 550, TITLE);
+    let mut svg = Svg::new(830, 550, TITLE);
     svg.words(Point(30.0, 32.0), &format!("font-size=\"16\" {BLACK}"), TITLE);
     legend(&mut svg);
     for (i, kind) in KIND_NAMES.iter().enumerate() {
-        let corner = Point(COLUMNS[i % 3], LINES[i / 3]);
+        let corner = Point(COLUMNS[i % COLUMNS.len()], LINES[i / COLUMNS.len()]);
         panel(&mut svg, &scales, corner, kind);
         for curve in &CURVES {
             curve.draw(&mut svg, &points(&rows, &scales, corner, kind, curve));
         }
     }
     let small = format!("font-size=\"13\" text-anchor=\"middle\" {BLACK}");
-    svg.words(Point(COLUMNS[1] + WIDTH / 2.0, 530.0), &small, "n, number of vertices");
+    let middle = (COLUMNS[0] + COLUMNS[COLUMNS.len() - 1] + WIDTH) / 2.0;
+    svg.words(Point(middle, 530.0), &small, "n, number of vertices");
     svg.upright_words(Point(24.0, 295.0), &small, "ns per call");
     Ok(svg.finish())
 }

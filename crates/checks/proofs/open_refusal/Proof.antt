@@ -16,11 +16,11 @@ use Rattle.checks.proofs.Tried.{Tried, tried-none, tried-one, refused-h
 use Rattle.checks.proofs.open_refusal.Statement.{statement}
 use Rattle.checks.proofs.open_refusal.Tie as tie
 
-abbrev tests : tie.After-struct-known → List (ℕ × Bool)
-tests c = openTests (c .before .before .args .kind .0) (now (c .before .before .args .rows))
+abbrev tests : tie.After-struct-known2 → List (ℕ × Bool)
+tests c = openTests (c .before .before .before .args .kind .0) (now (c .before .before .before .args .rows))
 
 -- the first i tests do not hold
-abbrev Past : ℕ → tie.After-struct-known → Type 0
+abbrev Past : ℕ → tie.After-struct-known2 → Type 0
 Past i c = Tried (tests c) (drop i (tests c))
 
 past-1 : (c : tie.Else1) → Past 1 (c .before)

@@ -15,7 +15,7 @@ use Rattle.searches.specs.CarryOn.{carryOn}
 use Rattle.searches.specs.Answer.{isPass, refusalOf, number}
 use Rattle.searches.proofs.Ordering.{ordering-fits}
 use Rattle.steps.proofs.Representation.{reached-covers}
-use Rattle.engine.proofs.Calls.{replayable, stopped-fails, ended-passes, filled-carried}
+use Rattle.engine.proofs.Calls.{replayable, stopped-fails, ended-passes, along-ended, filled-carried}
 use borrow.Author.Needs.{needs}
 use Rattle.engine.proofs.extend.Statement.{statement}
 use Rattle.engine.proofs.extend.Tie as tie
@@ -34,7 +34,7 @@ returns c =
     let k = searchOf (a .kind .0) in
     let r = c .before .before .replay in
     let e = stopped-fails (now (a .rows)) (now (a .output)) (a .k) (s .pre .start) k (r .result .count) (r .ensures .0) (r .last .1 .1 .1 .1 .0)
-    (r .result .free) (c .if1 .taken) (r .ensures .1 .1 .1) (r .ensures .1 .0)
+    (r .result .set) (r .result .free) (c .if1 .taken) (r .ensures .1 .1 .1 .1) (r .ensures .1 .0) (r .ensures .1 .1 .0)
     in (
       sym (ap (λ (x : Bool). cond {A = Option ℕ} x none (some 12)) e),
       sym (ap (λ (x : Bool). cond x (carryOn k (arcs (now (a .rows))) (length (now (a .rows))) (now (a .tie-break)) (now (a .output)) (a .k) ++ drop (length (now (a .rows))) (now (a .output))) (now (a .output))) e),
@@ -59,8 +59,13 @@ fill-requires c κs =
     record {
       fits = fits;
       small = s .pre .start .small;
+      both-ways = s .pre .start .both-ways;
+      names = s .pre .names;
+      along =
+          along-ended (now (a .rows)) (now (a .output)) (a .k) (s .pre .start) (searchOf (a .kind .0)) (r .result .count) (r .ensures .0) (omega arith)
+          (r .ensures .1 .1 .1 .1) (r .ensures .1 .0) (r .ensures .1 .1 .0);
       room = omega (arith, room, fits, length-take (length (now (a .output)) - a .k) (drop (a .k) (now (a .output))), length-drop (a .k) (now (a .output)));
-      covers = reached-covers (now (a .rows)) (now (a .output)) (r .result .count) (r .ensures .1 .1 .1) (r .ensures .1 .1 .0);
+      covers = reached-covers (now (a .rows)) (now (a .output)) (r .result .count) (r .ensures .1 .1 .1 .1) (r .ensures .1 .1 .1 .0);
     }
 
 same-length-2 : tie.Need-same-length-2
@@ -77,7 +82,7 @@ returns-2 c =
     let e : isPass (judge k (arcs (now (a .rows))) (length (now (a .rows))) (now (a .output)) (a .k)) ≡ true = ap isPass p in (
       sym (ap (λ (x : Bool). cond {A = Option ℕ} x none (some 12)) e),
       filled-carried k (now (a .rows)) (now (a .tie-break)) (now (a .output)) (a .k) (s .pre) (r .result .count) (r .result .free) (r .last .1 .1 .1 .1 .0)
-          (c .before .before .fill .last .1 .1 .1 .0) (r .ensures .0) (omega arith) (r .ensures .1 .1 .1) (r .ensures .1 .0) (c .before .before .fill .ensures)
+          (c .before .before .fill .last .1 .1 .1 .0) (r .ensures .0) (omega arith) (r .ensures .1 .1 .1 .1) (r .ensures .1 .1 .0) (c .before .before .fill .ensures)
           ∙ sym (ap (λ (x : Bool). cond x (carryOn k (arcs (now (a .rows))) (length (now (a .rows))) (now (a .tie-break)) (now (a .output)) (a .k) ++ drop (length (now (a .rows))) (now (a .output))) (now (a .output))) e),
     )
 

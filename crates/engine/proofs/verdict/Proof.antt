@@ -20,7 +20,7 @@ first-violation-requires c κs =
     let k = searchOf (a .kind .0) in
     let r = c .before .before .replay in
     fault-there (now (a .rows)) (now (a .ordering)) (length (now (a .ordering))) (s .pre) k (r .result .count) (r .ensures .0) (r .last .1 .1 .1 .1 .0)
-    (r .result .free) (c .before .if1 .taken) (r .ensures .1 .1 .1) (r .ensures .1 .0)
+    (r .result .set) (r .result .free) (c .before .if1 .taken) (r .ensures .1 .1 .1 .1) (r .ensures .1 .0) (r .ensures .1 .1 .0)
 
 returns : tie.Need-returns
 returns c =
@@ -30,7 +30,7 @@ returns c =
     let r = c .before .before .before .replay in
     c .first-violation .ensures
     ∙ fault-judged (now (a .rows)) (now (a .ordering)) (length (now (a .ordering))) (s .pre) k (r .result .count) (r .ensures .0)
-    (r .last .1 .1 .1 .1 .0) (r .result .free) (c .before .before .if1 .taken) (r .ensures .1 .1 .1) (r .ensures .1 .0)
+    (r .last .1 .1 .1 .1 .0) (r .result .set) (r .result .free) (c .before .before .if1 .taken) (r .ensures .1 .1 .1 .1) (r .ensures .1 .0) (r .ensures .1 .1 .0)
 
 returns-2 : tie.Need-returns-2
 unfolding verdictOf

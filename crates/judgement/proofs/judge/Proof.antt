@@ -17,8 +17,8 @@ returns c =
     let a = c .before .before .before .args in
     let b = now (a .sheet) in
     let out = now (a .output) in (
-      sym (ap (λ (x : Bool). cond x out (sets out 0 (judgement b))) (lt-ltb (length out) 126 (c .if1 .taken))),
-      sym (ap (λ (x : Bool). cond x 0 (length (judgement b))) (lt-ltb (length out) 126 (c .if1 .taken))),
+      sym (ap (λ (x : Bool). cond x out (sets out 0 (judgement b))) (lt-ltb (length out) 147 (c .if1 .taken))),
+      sym (ap (λ (x : Bool). cond x 0 (length (judgement b))) (lt-ltb (length out) 147 (c .if1 .taken))),
     )
 
 write-judgement-requires : tie.Need-write-judgement-requires
@@ -35,8 +35,8 @@ returns-2 c =
     let a = room .before .before .before .args in
     let b = now (a .sheet) in
     let out = now (a .output) in (
-      written .write-judgement .ensures .0 ∙ sym (ap (λ (x : Bool). cond x out (sets out 0 (judgement b))) (le-ltb (length out) 126 (room .if1 .left))),
-      written .write-judgement .ensures .1 .0 ∙ sym (ap (λ (x : Bool). cond x 0 (length (judgement b))) (le-ltb (length out) 126 (room .if1 .left))),
+      written .write-judgement .ensures .0 ∙ sym (ap (λ (x : Bool). cond x out (sets out 0 (judgement b))) (le-ltb (length out) 147 (room .if1 .left))),
+      written .write-judgement .ensures .1 .0 ∙ sym (ap (λ (x : Bool). cond x 0 (length (judgement b))) (le-ltb (length out) 147 (room .if1 .left))),
     )
 
 pub judge-spec : {M : Type 1} → statement M

@@ -15,7 +15,7 @@ abbrev Inv-loop : tie.InvT-loop
 Inv-loop output₀ rows ordering at₀ kind₀ output at kind = Judging output₀ rows ordering output at kind
 
 abbrev μ-loop : tie.MeasureT-loop
-μ-loop output₀ rows ordering at₀ kind₀ output at kind = 6 - kind
+μ-loop output₀ rows ordering at₀ kind₀ output at kind = 7 - kind
 
 loop-holds : tie.Need-loop-holds Inv-loop μ-loop
 loop-holds c = judging-start _ _ _
@@ -54,7 +54,7 @@ returns : tie.Need-returns Inv-loop μ-loop
 returns c =
     let l = c .before in
     let s = l .before .before .before .before in
-    let all : l .loop .kind ≡ 6 = omega (arith, l .loop .inv .upto) in
+    let all : l .loop .kind ≡ 7 = omega (arith, l .loop .inv .upto) in
     let rows = now (s .args .rows) in
     let w = now (s .args .ordering) in (
       l .loop .inv .written ∙ ap (λ (j : ℕ). sets (now (s .args .output)) 0 (judgedLines rows w j)) all,

@@ -1,4 +1,4 @@
--- `judgement::write_judgement` meets its contract: a refusal is its number; else the lines of the six kinds.
+-- `judgement::write_judgement` meets its contract: a refusal is its number; else the lines of the seven kinds.
 -- Assumes nothing.
 use mathlib.Core.Path.{_≡_, sym, ap, ap₂, _∙_}
 use mathlib.Core.List.{List, [], _∷_}
@@ -118,9 +118,9 @@ returns-2 c =
     let b = now (told .before .before .before .before .before .before .args .sheet) in
     let out = now (told .before .before .before .before .before .before .args .output) in
     let read-so = lent told in (
-      written .judged-lines .ensures .0 ∙ ap₂ (λ (r w : List ℕ). sets out 0 (judgedLines r w 6)) (read-so .0) (read-so .1) ∙ ap (λ (x : Option ℕ). sets out 0 (judgedUnless x b)) (accepted told),
+      written .judged-lines .ensures .0 ∙ ap₂ (λ (r w : List ℕ). sets out 0 (judgedLines r w 7)) (read-so .0) (read-so .1) ∙ ap (λ (x : Option ℕ). sets out 0 (judgedUnless x b)) (accepted told),
       (
-        written .judged-lines .ensures .1 ∙ ap₂ (λ (r w : List ℕ). length (judgedLines r w 6)) (read-so .0) (read-so .1) ∙ ap (λ (x : Option ℕ). length (judgedUnless x b)) (accepted told),
+        written .judged-lines .ensures .1 ∙ ap₂ (λ (r w : List ℕ). length (judgedLines r w 7)) (read-so .0) (read-so .1) ∙ ap (λ (x : Option ℕ). length (judgedUnless x b)) (accepted told),
         told .before .before .before .read .ensures .1 .1,
       ),
     )

@@ -2,7 +2,7 @@
 -- Assumes nothing.
 use mathlib.Core.Path.{sym, ap, _∙_}
 use mathlib.Core.Bool.{not}
-use Prim.Native.Nat.{ℕ, _+_}
+use Prim.Native.Nat.{ℕ, _+_, _<_, _^_}
 use native.Mathlib.Omega.{arith}
 use native.Mathlib.Numerals.{add-one}
 use lib.Dec.{leb}
@@ -12,6 +12,7 @@ use Rattle.bitset.specs.Word.{member, difference, fromUp}
 use Rattle.searches.specs.Kind.{Search, searchOf}
 use Rattle.labels.specs.Words.{unexcusedIn}
 use Rattle.labels.proofs.Comparison.{unexcused-generic, unexcused-mns, unexcused-bfs, unexcused-dfs, unexcused-lexBfs, unexcused-lexDfs, of-kind, searchOf-other}
+use Rattle.labels.proofs.Profiles.{unexcused-mcs}
 use Rattle.labels.proofs.is_unexcused.Statement.{statement}
 use Rattle.labels.proofs.is_unexcused.Tie as tie
 
@@ -23,8 +24,8 @@ unfolding searchOf
 returns c =
     let s = c .before .before .before in
     let x = s .args in
-    of-kind (λ k. unexcusedIn k (x .position .0) (x .c) (x .b)) (c .before .if1 .taken)
-    (ap (λ (p : ℕ). leb (x .position .0) p) (c .smallest .ensures) ∙ unexcused-bfs (x .position .0) (x .c) (x .b) (omega arith))
+    of-kind (λ k. unexcusedIn k (x .position .0) (x .c .label) (x .b .label)) (c .before .if1 .taken)
+    (ap (λ (p : ℕ). leb (x .position .0) p) (c .smallest .ensures) ∙ unexcused-bfs (x .position .0) (x .c .label) (x .b .label) (omega arith))
 
 add-any-from : tie.Need-add-any-from
 add-any-from c = search needs
@@ -37,8 +38,8 @@ unfolding searchOf
 returns-2 c =
     let s = c .before .before .before .before .before in
     let x = s .args in
-    of-kind (λ k. unexcusedIn k (x .position .0) (x .c) (x .b)) (c .before .if2 .taken)
-    (ap not (c .any-from .ensures) ∙ ap (λ (p : ℕ). not (anyBelow 64 (fromUp p (x .b)))) (add-one (x .position .0)) ∙ unexcused-dfs (x .position .0) (x .c) (x .b))
+    of-kind (λ k. unexcusedIn k (x .position .0) (x .c .label) (x .b .label)) (c .before .if2 .taken)
+    (ap not (c .any-from .ensures) ∙ ap (λ (p : ℕ). not (anyBelow 64 (fromUp p (x .b .label)))) (add-one (x .position .0)) ∙ unexcused-dfs (x .position .0) (x .c .label) (x .b .label))
 
 without-requires : tie.Need-without-requires
 without-requires c κs = search needs
@@ -51,9 +52,9 @@ unfolding searchOf
 returns-3 c =
     let s = c .before .before .before .before .before .before .before .before in
     let x = s .args in
-    of-kind (λ k. unexcusedIn k (x .position .0) (x .c) (x .b)) (c .before .before .if3 .taken)
+    of-kind (λ k. unexcusedIn k (x .position .0) (x .c .label) (x .b .label)) (c .before .before .if3 .taken)
     (ap (λ (p : ℕ). leb (x .position .0) p) (c .smallest2 .ensures) ∙ ap (λ (y : ℕ). leb (x .position .0) (firstBelow 64 (member y))) (c .before .without .ensures)
-    ∙ unexcused-lexBfs (x .position .0) (x .c) (x .b) (omega arith))
+    ∙ unexcused-lexBfs (x .position .0) (x .c .label) (x .b .label) (omega arith))
 
 without-requires-2 : tie.Need-without-requires-2
 without-requires-2 c κs = search needs
@@ -69,9 +70,9 @@ unfolding searchOf
 returns-4 c =
     let s = c .before .before .before .before .before .before .before .before .before .before in
     let x = s .args in
-    of-kind (λ k. unexcusedIn k (x .position .0) (x .c) (x .b)) (c .before .before .if4 .taken)
+    of-kind (λ k. unexcusedIn k (x .position .0) (x .c .label) (x .b .label)) (c .before .before .if4 .taken)
     (ap not (c .any-from2 .ensures) ∙ ap (λ (y : ℕ). not (anyBelow 64 (fromUp (x .position .0 + 1) y))) (c .before .without2 .ensures)
-    ∙ ap (λ (p : ℕ). not (anyBelow 64 (fromUp p (difference (x .b) (x .c))))) (add-one (x .position .0)) ∙ unexcused-lexDfs (x .position .0) (x .c) (x .b))
+    ∙ ap (λ (p : ℕ). not (anyBelow 64 (fromUp p (difference (x .b .label) (x .c .label))))) (add-one (x .position .0)) ∙ unexcused-lexDfs (x .position .0) (x .c .label) (x .b .label))
 
 subset-requires : tie.Need-subset-requires
 subset-requires c κs = search needs
@@ -81,18 +82,29 @@ unfolding searchOf
 returns-5 c =
     let s = c .before .before .before .before .before .before .before .before .before .before .before in
     let x = s .args in
-    of-kind (λ k. unexcusedIn k (x .position .0) (x .c) (x .b)) (c .before .if5 .taken) (c .subset .ensures ∙ unexcused-mns (x .position .0) (x .c) (x .b))
+    of-kind (λ k. unexcusedIn k (x .position .0) (x .c .label) (x .b .label)) (c .before .if5 .taken) (c .subset .ensures ∙ unexcused-mns (x .position .0) (x .c .label) (x .b .label))
 
 returns-6 : tie.Need-returns-6
+unfolding searchOf
 returns-6 c =
-    let s = c .before .before .before .before .before .before .before .before .before .before in
+    let s = c .before .before .before .before .before .before .before .before .before .before .before .before .before .before in
     let x = s .args in
-    unexcused-generic (x .position .0) (x .c) (x .b) (s .fits .b .fits)
-    ∙ ap (λ (k : Search). unexcusedIn k (x .position .0) (x .c) (x .b))
+    unexcused-mcs (searchOf (x .kind .0)) (ap searchOf (c .before .before .if6 .taken)) (x .c) (x .b) (s .pre .1) (s .pre .2) (x .position .0)
+
+-- a label is a word
+b-word : (s : tie.Start) → s .args .b .label < 2 ^ 64
+b-word s = search needs
+
+returns-7 : tie.Need-returns-7
+returns-7 c =
+    let other = c .before in
+    let s = other .before .before .before .before .before .before .before .before .before .before .before .before in
+    let x = s .args in
+    unexcused-generic (x .position .0) (x .c .label) (x .b .label) (b-word s)
+    ∙ ap (λ (k : Search). unexcusedIn k (x .position .0) (x .c .label) (x .b .label))
     (sym
-    (searchOf-other (x .kind .0) (c .before .before .before .before .before .before .before .before .if1 .left)
-    (c .before .before .before .before .before .before .if2 .left) (c .before .before .before .before .if3 .left) (c .before .before .if4 .left)
-    (c .if5 .left)))
+    (searchOf-other (x .kind .0) (other .before .before .before .before .before .before .before .before .before .before .if1 .left) (other .before .before .before .before .before .before .before .before .if2 .left) (other .before .before .before .before .before .before .if3 .left) (other .before .before .before .before .if4 .left)
+    (other .before .before .if5 .left) (other .if6 .left)))
 
 pub is-unexcused-spec : {M : Type 1} → statement M
 is-unexcused-spec =
@@ -112,4 +124,5 @@ is-unexcused-spec =
     returns-4
     subset-requires
     returns-5
-    returns-6)
+    returns-6
+    returns-7)

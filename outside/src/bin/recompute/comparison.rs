@@ -1,4 +1,4 @@
-//! One call made three ways: by the library, by 01's definitions, by the
+//! One call made three ways: by the library, by the definitions, by the
 //! implementation on bit sets. The first difference ends the program.
 
 use std::collections::BTreeMap;

@@ -1,7 +1,9 @@
-//! Group a: the examples of 01, with its answers.
+//! Group a: the examples of 01, with its answers. What it says of "all", "the rest" or "the others" holds of MCS too.
 
 use outside::calls::{CarryOnCall, JudgeCall};
-use outside::definition::{failure_code, Kind, BFS, DFS, GENERIC, KINDS, LEX_BFS, LEX_DFS, MNS};
+use outside::definition::{
+    failure_code, Kind, BFS, DFS, GENERIC, KINDS, LEX_BFS, LEX_DFS, MCS, MNS,
+};
 use outside::graphs::plan;
 
 use crate::comparison::Comparison;
@@ -28,14 +30,14 @@ const EXAMPLES: [Example; 9] = [
         size: 4,
         links: &[(0, 1), (0, 2), (0, 3), (1, 3)],
         walk: &[0, 1, 2, 3],
-        failing: &[DFS, LEX_BFS, LEX_DFS, MNS],
+        failing: &[DFS, LEX_BFS, LEX_DFS, MNS, MCS],
         triple: (1, 2, 3),
     },
     Example {
         size: 4,
         links: &[(0, 1), (0, 3), (1, 2), (1, 3)],
         walk: &[0, 1, 2, 3],
-        failing: &[BFS, LEX_BFS, LEX_DFS, MNS],
+        failing: &[BFS, LEX_BFS, LEX_DFS, MNS, MCS],
         triple: (0, 2, 3),
     },
     Example { size: 3, links: &[(0, 1)], walk: &[0, 2], failing: &KINDS, triple: (0, 2, 1) },
@@ -96,13 +98,14 @@ fn sizes(comparison: &mut Comparison) {
 
 /// k = n passes and writes nothing.
 fn full_starts(comparison: &mut Comparison) {
-    let starts: [(Kind, [u8; 4]); 6] = [
+    let starts: [(Kind, [u8; 4]); 7] = [
         (GENERIC, [0, 1, 2, 3]),
         (BFS, [0, 1, 3, 2]),
         (DFS, [0, 1, 2, 3]),
         (LEX_BFS, [0, 1, 3, 2]),
         (LEX_DFS, [0, 1, 2, 3]),
         (MNS, [0, 1, 2, 3]),
+        (MCS, [0, 1, 2, 3]),
     ];
     for (kind, start) in starts {
         for beyond in [0, 3] {

@@ -1,4 +1,4 @@
-//! Recomputes the library's answers from 01 and stops at the first that differs.
+//! Recomputes the library's answers from 01 and 02, and stops at the first that differs.
 //!
 //!   a   the examples of 01
 //!   b   the orderings that document 001 names
@@ -6,7 +6,9 @@
 //!   d   random plans, walks and damaged inputs from a fixed seed
 //!   e   the open walks that a program of the library plays
 //!   f   the sheets that a program of the library judges
+//!   g   which passes carry over from one kind to another
 
+mod carry_over;
 mod comparison;
 mod document;
 mod examples;
@@ -21,6 +23,7 @@ fn main() {
         + small_plans::compare()
         + random_calls::compare()
         + open_walks::compare()
-        + sheets::compare();
+        + sheets::compare()
+        + carry_over::compare();
     println!("all {calls} calls agree");
 }

@@ -95,8 +95,8 @@ pub fn compare() -> u64 {
         lines.play(kind, &PIECES);
         lines.damaged(kind);
     }
-    lines.damaged(6);
-    lines.refused(6, &RING);
+    lines.damaged(7);
+    lines.refused(7, &RING);
     lines.refused(0, &[0; 65]);
     lines.refused(1, &with_first_row(26));
     lines.refused(2, &with_first_row(11));

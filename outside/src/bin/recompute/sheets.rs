@@ -17,9 +17,11 @@ use crate::comparison::Comparison;
 
 const PROGRAM: &str = concat!(env!("CARGO_MANIFEST_DIR"), "/../target/bin/judge_sheet");
 
-/// What 01 prints for its sheet.
-const PRINTED: &str =
-    "   0   1\n   1   1\n   2   0   1   2   3\n   3   1\n   4   0   1   2   3\n   5   1\n";
+/// What 01 prints for its sheet, and a line for MCS.
+const PRINTED: &str = concat!(
+    "   0   1\n   1   1\n   2   0   1   2   3\n   3   1\n",
+    "   4   0   1   2   3\n   5   1\n   6   1\n"
+);
 
 /// Random sheets, each sound and damaged.
 const ROUNDS: usize = 400;
@@ -155,7 +157,7 @@ pub fn compare() -> u64 {
     calls
 }
 
-/// The definitions print for the sheet of 01 what 01 prints.
+/// The definitions print for the sheet of 01 what 01 prints, and that MCS passes.
 fn compare_printed(judged: &mut Judged) {
     let sheet = sheets::printed();
     let defined = judgement(&sheet);

@@ -4,8 +4,10 @@ use crate::orderings;
 
 const PRINTED: &str = "   4   3   4\n   0   1\n   0   2\n   1   3\n   0\n   1\n   2\n   3\n";
 
-const ANSWER: &str =
-    "   0   1\n   1   1\n   2   0   1   2   3\n   3   1\n   4   0   1   2   3\n   5   1\n";
+const ANSWER: &str = concat!(
+    "   0   1\n   1   1\n   2   0   1   2   3\n   3   1\n",
+    "   4   0   1   2   3\n   5   1\n   6   1\n"
+);
 
 fn refusal(sheet: &str) -> u32 {
     read(sheet.as_bytes()).expect_err("the sheet is refused")
@@ -113,8 +115,13 @@ fn a_refusal_is_printed_alone() {
     assert_eq!(judged("  65   0   0\n"), "   2\n");
     assert_eq!(
         judged("   0   0   0\n"),
-        "   0   1\n   1   1\n   2   1\n   3   1\n   4   1\n   5   1\n"
+        "   0   1\n   1   1\n   2   1\n   3   1\n   4   1\n   5   1\n   6   1\n"
     );
+}
+
+#[test]
+fn the_longest_judgement_has_a_triple_for_every_kind() {
+    assert_eq!(judged("   3   1   2\n   0   1\n   0\n   2\n").len(), 7 * 21);
 }
 
 #[test]

@@ -17,8 +17,23 @@ fn table() -> String {
 #[test]
 fn every_time_of_judge_is_a_dot() {
     let picture = draw(&table()).expect("a picture");
-    let (dots, in_the_legend) = (6 * 4 * 2, 4 * 2);
+    let (dots, in_the_legend) = (KIND_NAMES.len() * 4 * 2, 4 * 2);
     assert_eq!(picture.matches("<circle").count(), dots + in_the_legend);
+}
+
+#[test]
+fn every_kind_has_a_panel() {
+    let picture = draw(&table()).expect("a picture");
+    for kind in KIND_NAMES {
+        assert_eq!(picture.matches(&format!(">{kind}</text>")).count(), 1, "{kind}");
+    }
+    assert!(KIND_NAMES.len() <= COLUMNS.len() * LINES.len());
+}
+
+#[test]
+fn no_panel_touches_another() {
+    assert!(COLUMNS.windows(2).all(|pair| pair[0] + WIDTH < pair[1]));
+    assert!(LINES.windows(2).all(|pair| pair[0] + HEIGHT < pair[1]));
 }
 
 #[test]

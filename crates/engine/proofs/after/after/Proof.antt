@@ -58,7 +58,7 @@ returns-3 c =
     let told = r .before .before in
     let a = told .before .before .before .before .before .args in
     moment-ended (a .kind .0) (now (a .rows)) (now (a .ordering)) (accepted told) (r .replay .result .count) (r .replay .ensures .0) (c .if1 .left)
-    (r .replay .ensures .1 .0) (r .replay .ensures .1 .1 .1)
+    (r .replay .ensures .1 .0) (r .replay .ensures .1 .1 .0) (r .replay .ensures .1 .1 .1 .1)
 
 pub after-spec : {M : Type 1} → statement M
 after-spec =

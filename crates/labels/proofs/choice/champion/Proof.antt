@@ -1,7 +1,7 @@
 -- `labels::choice::champion` meets its contract: nothing that was taken out of the set so far is ahead of the leader. The measure is the word that is left.
 -- Assumes nothing.
-use Prim.Native.Nat.{ℕ, _<_}
-use mathlib.Core.Path.{sym, subst}
+use Prim.Native.Nat.{ℕ, _<_, _^_}
+use mathlib.Core.Path.{_≡_, sym, ap₂, _∙_, subst}
 use mathlib.Core.Logic.{⊎-elim}
 use native.Mathlib.Omega.{arith}
 use lib.Dec.{T}
@@ -12,17 +12,20 @@ use Rattle.bitset.proofs.Tests.{said-true, said-false}
 use Rattle.bitset.proofs.Word.{member-below}
 use Rattle.bitset.proofs.Scan.{scan-start, scan-next, first-member, removed-less, taken-out}
 use Rattle.searches.specs.Kind.{searchOf}
+use Rattle.searches.specs.declared.Vertex.{Vertex}
 use Rattle.labels.specs.Words.{aheadIn}
+use Rattle.labels.proofs.Profiles.{label-of, profile-own}
 use Rattle.labels.proofs.Reached.{front-word, front-free}
 use Rattle.labels.proofs.Scan.{Scanned, scan-first, scan-lead, scan-champion}
 use Rattle.labels.proofs.choice.champion.Statement.{statement}
 use Rattle.labels.proofs.choice.champion.Tie as tie
 
 abbrev Inv-loop : tie.InvT-loop
-Inv-loop kind labels free reached front best₀ rest₀ best rest = T (member free best) × Scanned (searchOf (kind .0)) labels front (getD labels best 0) rest
+Inv-loop kind rows labels placed free reached front best₀ rest₀ best rest =
+    T (member free (best .0)) × Scanned (searchOf (kind .0)) labels front (getD labels (best .0) 0) rest
 
 abbrev μ-loop : tie.MeasureT-loop
-μ-loop kind labels free reached front best₀ rest₀ best rest = rest
+μ-loop kind rows labels placed free reached front best₀ rest₀ best rest = rest
 
 common-requires : tie.Need-common-requires Inv-loop μ-loop
 common-requires c κs = search needs
@@ -32,14 +35,14 @@ smallest-requires c κs = search needs
 
 cast-first : tie.Need-cast-first Inv-loop μ-loop
 cast-first c =
-    let s = c .before .before .before in
+    let s = c .before .before .before .before in
     omega (arith, c .smallest .ensures, first-member (s .args .free) (s .fits .free .fits) (s .pre .0) .0)
 
 -- nobody is reached
 returns : tie.Need-returns Inv-loop μ-loop
 returns c =
     let m = c .before .before in
-    let s = m .before in
+    let s = m .before .before in
     let a = s .args in
     scan-champion (searchOf (a .kind .0)) (a .labels .now) (a .free) (a .reached) (c .smallest .result) (m .common .result) (s .pre .1) (m .common .ensures)
     (subst (λ (u : ℕ). T (member (a .free) u)) (sym (c .smallest .ensures)) (first-member (a .free) (s .fits .free .fits) (s .pre .0) .1))
@@ -47,6 +50,21 @@ returns c =
 
 smallest-requires-2 : tie.Need-smallest-requires-2 Inv-loop μ-loop
 smallest-requires-2 c κs = search needs
+
+-- the first leader is the smallest number of the front
+leads : (c : tie.After-smallest2 Inv-loop μ-loop)
+    → let m = c .before .before in
+    (c .smallest2 .result < 64) × T (member (m .common .result) (c .smallest2 .result)) × (m .common .result < 2 ^ 64)
+leads c =
+    let m = c .before .before in
+    let s = m .before .before in
+    let word = front-word (s .args .free) (s .args .reached) (m .common .ensures) (s .fits .free .fits) in
+    let first = first-member (m .common .result) word (omega arith) in
+    let at = sym (c .smallest2 .ensures) in
+    (subst (λ (u : ℕ). u < 64) at (first .0), subst (λ (u : ℕ). T (member (m .common .result) u)) at (first .1), word)
+
+cast-t16 : tie.Need-cast-t16 Inv-loop μ-loop
+cast-t16 c = omega (arith, leads c .0)
 
 without-smallest-requires : tie.Need-without-smallest-requires Inv-loop μ-loop
 without-smallest-requires c κs = search needs
@@ -57,41 +75,56 @@ found c =
     let rest = c .before .before .loop .rest in
     subst (λ (u : ℕ). (u < 64) × T (member rest u)) (sym (c .smallest3 .ensures)) (first-member rest (c .before .before .loop .inv .1 .word) (omega arith))
 
-leader : (c : tie.At-loop Inv-loop μ-loop) → c .loop .best < 64
-leader c = let s = c .before .before .before .before .before in member-below 64 (s .fits .free .fits) (c .loop .best) (c .loop .inv .0)
+leader : (c : tie.At-loop Inv-loop μ-loop) → c .loop .best .0 < 64
+leader c = let s = c .before .before .before .before .before .before in member-below 64 (s .fits .free .fits) (c .loop .best .0) (c .loop .inv .0)
 
 loop-holds : tie.Need-loop-holds Inv-loop μ-loop
 loop-holds c =
-    let m = c .before .before .before in
-    let s = m .before in
-    let a = s .args in
+    let first = c .before in
+    let m = first .before .before in
+    let a = m .before .before .args in
     let k = searchOf (a .kind .0) in
     let front = m .common .result in
-    let word = front-word (a .free) (a .reached) (m .common .ensures) (s .fits .free .fits) in
-    let best = c .before .smallest2 .result in (
-      front-free (a .free) (a .reached) (m .common .ensures) best
-          (subst (λ (u : ℕ). T (member front u)) (sym (c .before .smallest2 .ensures)) (first-member front word (omega arith) .1)),
-      subst (λ (r : ℕ). Scanned k (a .labels .now) front (getD (a .labels .now) best 0) r) (sym (taken-out front (c .without-smallest .ensures) (c .before .smallest2 .ensures)))
-          (scan-first k (a .labels .now) front best word),
+    let best = first .smallest2 .result in (
+      front-free (a .free) (a .reached) (m .common .ensures) best (leads first .1),
+      subst (λ (r : ℕ). Scanned k (a .labels .now) front (getD (a .labels .now) best 0) r) (sym (taken-out front (c .without-smallest .ensures) (first .smallest2 .ensures)))
+          (scan-first k (a .labels .now) front best (leads first .2)),
     )
 
 smallest-requires-3 : tie.Need-smallest-requires-3 Inv-loop μ-loop
 smallest-requires-3 c κs = search needs
 
-mul-is-ahead : tie.Need-mul-is-ahead Inv-loop μ-loop
-mul-is-ahead c = omega (arith, found c .0)
+cast-t19 : tie.Need-cast-t19 Inv-loop μ-loop
+cast-t19 c = omega (arith, found c .0)
 
-element-copy-out-is-ahead : tie.Need-element-copy-out-is-ahead Inv-loop μ-loop
-element-copy-out-is-ahead c = found c .0
+profile-of-requires : tie.Need-profile-of-requires Inv-loop μ-loop
+profile-of-requires c κs = let l = c .before .before in (leader l, l .before .before .before .before .before .before .pre .2)
 
-mul-is-ahead-2 : tie.Need-mul-is-ahead-2 Inv-loop μ-loop
-mul-is-ahead-2 c = omega (arith, leader (c .before .before .before))
-
-element-copy-out-is-ahead-2 : tie.Need-element-copy-out-is-ahead-2 Inv-loop μ-loop
-element-copy-out-is-ahead-2 c = leader (c .before .before .before)
+profile-of-requires-2 : tie.Need-profile-of-requires-2 Inv-loop μ-loop
+profile-of-requires-2 c κs = (found (c .before) .0, c .before .before .before .before .before .before .before .before .before .pre .2)
 
 is-ahead-requires : tie.Need-is-ahead-requires Inv-loop μ-loop
-is-ahead-requires c κs = search needs
+is-ahead-requires c κs =
+    let l = c .before .before .before .before in
+    let a = l .before .before .before .before .before .before .args in
+    let k = searchOf (a .kind .0) in (
+      profile-own k (getD (a .labels .now) (c .before .before .smallest3 .result) 0) (c .profile-of2 .ensures),
+      profile-own k (getD (a .labels .now) (l .loop .best .0) 0) (c .before .profile-of .ensures),
+    )
+
+-- whether the smallest number of what is left is ahead of the leader
+answered : (c : tie.After-is-ahead Inv-loop μ-loop)
+    → let l = c .before .before .before .before .before in
+    let a = l .before .before .before .before .before .before .args in
+    c .is-ahead .result
+    ≡ aheadIn (searchOf (a .kind .0)) (getD (a .labels .now) (c .before .before .before .smallest3 .result) 0) (getD (a .labels .now) (l .loop .best .0) 0)
+answered c =
+    let l = c .before .before .before .before .before in
+    let a = l .before .before .before .before .before .before .args in
+    let k = searchOf (a .kind .0) in
+    c .is-ahead .ensures
+    ∙ ap₂ (λ (x y : ℕ). aheadIn k x y) (label-of k (getD (a .labels .now) (c .before .before .before .smallest3 .result) 0) (c .before .profile-of2 .ensures))
+    (label-of k (getD (a .labels .now) (l .loop .best .0) 0) (c .before .before .profile-of .ensures))
 
 without-smallest-requires-2 : tie.Need-without-smallest-requires-2 Inv-loop μ-loop
 without-smallest-requires-2 c κs = search needs
@@ -104,36 +137,35 @@ loop-less c =
 
 loop-again : tie.Need-loop-again Inv-loop μ-loop
 loop-again c =
-    let n = c .before .before .before .before .before in
+    let asked = c .before .before in
+    let n = asked .before .before .before in
     let l = n .before .before in
     let m = l .before .before .before .before in
-    let a = m .before .args in
+    let a = m .before .before .args in
     let front = m .common .result in
     let k = searchOf (a .kind .0) in
     let u = n .smallest3 .result in
-    let best = l .loop .best in
+    let best = l .loop .best .0 in
     let ahead = aheadIn k (getD (a .labels .now) u 0) (getD (a .labels .now) best 0) in
-    subst (λ (r : ℕ). T (member (a .free) (c .before .if2 .best)) × Scanned k (a .labels .now) front (getD (a .labels .now) (c .before .if2 .best) 0) r)
+    subst (λ (r : ℕ). T (member (a .free) (c .before .if2 .best .0)) × Scanned k (a .labels .now) front (getD (a .labels .now) (c .before .if2 .best .0) 0) r)
     (sym (taken-out (l .loop .rest) (c .without-smallest2 .ensures) (n .smallest3 .ensures)))
     (⊎-elim (λ t.
-    subst (λ (v : ℕ). T (member (a .free) v) × Scanned k (a .labels .now) front (getD (a .labels .now) v 0) (removed (l .loop .rest) u)) (sym (t .1)) (
+    subst (λ (v : Vertex). T (member (a .free) (v .0)) × Scanned k (a .labels .now) front (getD (a .labels .now) (v .0) 0) (removed (l .loop .rest) u)) (sym (t .1)) (
       front-free (a .free) (a .reached) (m .common .ensures) u (l .loop .inv .1 .part u (found n .1)),
-      scan-lead k (a .labels .now) front (l .loop .rest) best u (l .loop .inv .1) (said-true ahead (c .before .before .is-ahead .ensures) (t .0 .taken)),
+      scan-lead k (a .labels .now) front (l .loop .rest) best u (l .loop .inv .1) (said-true ahead (answered asked) (t .0 .taken)),
     )) (λ t.
-    subst (λ (v : ℕ). T (member (a .free) v) × Scanned k (a .labels .now) front (getD (a .labels .now) v 0) (removed (l .loop .rest) u)) (sym (t .1)) (
+    subst (λ (v : Vertex). T (member (a .free) (v .0)) × Scanned k (a .labels .now) front (getD (a .labels .now) (v .0) 0) (removed (l .loop .rest) u)) (sym (t .1)) (
       l .loop .inv .0,
-      scan-next (l .loop .inv .1) u (λ _. said-false ahead (c .before .before .is-ahead .ensures) (t .0 .left)),
+      scan-next (l .loop .inv .1) u (λ _. said-false ahead (answered asked) (t .0 .left)),
     )) (c .before .if2 .came))
-
-cast-leader : tie.Need-cast-leader Inv-loop μ-loop
-cast-leader c = omega (arith, leader (c .before))
 
 returns-2 : tie.Need-returns-2 Inv-loop μ-loop
 returns-2 c =
     let l = c .before in
     let m = l .before .before .before .before in
-    let a = m .before .args in
-    scan-champion (searchOf (a .kind .0)) (a .labels .now) (a .free) (a .reached) (l .loop .best) (l .loop .rest) (m .before .pre .1) (m .common .ensures)
+    let s = m .before .before in
+    let a = s .args in
+    scan-champion (searchOf (a .kind .0)) (a .labels .now) (a .free) (a .reached) (l .loop .best .0) (l .loop .rest) (s .pre .1) (m .common .ensures)
     (l .loop .inv .0) (l .loop .inv .1) (c .loop-test .left)
 
 pub champion-spec : {M : Type 1} → statement M
@@ -147,16 +179,15 @@ champion-spec =
     cast-first
     returns
     smallest-requires-2
+    cast-t16
     without-smallest-requires
     loop-holds
     smallest-requires-3
-    mul-is-ahead
-    element-copy-out-is-ahead
-    mul-is-ahead-2
-    element-copy-out-is-ahead-2
+    cast-t19
+    profile-of-requires
+    profile-of-requires-2
     is-ahead-requires
     without-smallest-requires-2
     loop-less
     loop-again
-    cast-leader
     returns-2)

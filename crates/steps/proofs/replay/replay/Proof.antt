@@ -2,23 +2,25 @@
 -- Assumes nothing.
 use Prim.Native.Nat.{ℕ, _<_, _≤_, _-_}
 use mathlib.Core.Path.{_≡_, sym, ap, _∙_}
-use lib.ListN.{length}
+use lib.ListN.{length, getD}
+use denote.Ref.{now}
 use Rattle.bitset.specs.Word.{united}
 use Rattle.bitset.proofs.Tests.{said-true, said-false}
-use Rattle.labels.specs.Words.{spreadTo}
-use Rattle.steps.specs.Steps.{labelsAfter, freeAfter, reachedAfter, stopsAt}
+use Rattle.labels.specs.Words.{Tallied, spreadTo, beatenIn}
+use Rattle.labels.proofs.Profiles.{label-of, profile-own}
+use Rattle.steps.specs.Steps.{labelsAfter, placedAfter, freeAfter, reachedAfter, stopsAt}
 use native.Mathlib.Omega.{arith}
 use borrow.Author.Needs.{needs}
 use Rattle.searches.specs.Kind.{searchOf}
-use Rattle.steps.proofs.Replaying.{Replaying, replay-start, replay-next, replay-stop, replay-end, asked}
+use Rattle.steps.proofs.Replaying.{Replaying, replay-start, replay-tallied, replay-next, replay-stop, replay-end, asked}
 use Rattle.steps.proofs.replay.replay.Statement.{statement}
 use Rattle.steps.proofs.replay.replay.Tie as tie
 
 abbrev Inv-loop : tie.InvT-loop
-Inv-loop kind rows ordering k labels₀ free₀ reached₀ j₀ labels free reached j = Replaying (searchOf (kind .0)) rows ordering k labels free reached j
+Inv-loop kind rows ordering k labels₀ set₀ free₀ reached₀ j₀ labels set free reached j = Replaying (searchOf (kind .0)) rows ordering k labels set free reached j
 
 abbrev μ-loop : tie.MeasureT-loop
-μ-loop kind rows ordering k labels₀ free₀ reached₀ j₀ labels free reached j = k - j
+μ-loop kind rows ordering k labels₀ set₀ free₀ reached₀ j₀ labels set free reached j = k - j
 
 full-below-requires : tie.Need-full-below-requires Inv-loop μ-loop
 full-below-requires c κs = search needs
@@ -39,20 +41,44 @@ loop-holds c =
 vertex-at-requires : tie.Need-vertex-at-requires Inv-loop μ-loop
 vertex-at-requires c κs = let s = c .before .before .before .before .before in omega (arith, s .pre .long, s .pre .fits)
 
-cast-mine : tie.Need-cast-mine Inv-loop μ-loop
-cast-mine c = omega (arith, inside (c .before))
+-- what is counted at the vertex's turn
+counts : (c : tie.After-vertex-at Inv-loop μ-loop)
+    → let a = c .before .before .before .before .before .before .args in
+    Tallied (now (a .rows)) (c .before .before .loop .labels) (c .before .before .loop .set)
+counts c =
+    let l = c .before .before in
+    let s = l .before .before .before .before in
+    let a = s .args in
+    replay-tallied (searchOf (a .kind .0)) (now (a .rows)) (now (a .ordering)) (a .k) (s .pre) (l .loop .inv)
 
-mul-mine : tie.Need-mul-mine Inv-loop μ-loop
-mul-mine c = omega (arith, inside (c .before))
-
-element-copy-out-mine : tie.Need-element-copy-out-mine Inv-loop μ-loop
-element-copy-out-mine c = omega (arith, inside (c .before))
+profile-of-requires : tie.Need-profile-of-requires Inv-loop μ-loop
+profile-of-requires c κs = (omega (arith, inside (c .before)), counts (c .before))
 
 common-requires : tie.Need-common-requires Inv-loop μ-loop
 common-requires c κs = search needs
 
 is-beaten-requires : tie.Need-is-beaten-requires Inv-loop μ-loop
-is-beaten-requires c κs = search needs
+is-beaten-requires c κs =
+    let p = c .before .before in
+    let v = p .before .before in
+    let a = v .before .before .before .before .before .before .args in
+    (profile-own (searchOf (a .kind .0)) (getD (v .before .before .loop .labels) (v .vertex-at .result .0) 0) (p .profile-of .ensures), counts v)
+
+-- whether the vertex is beaten
+answered : (c : tie.After-is-beaten Inv-loop μ-loop)
+    → let v = c .before .before .before .before .before in
+    let l = v .before .before in
+    let a = l .before .before .before .before .args in
+    c .is-beaten .result ≡ stopsAt (searchOf (a .kind .0)) (now (a .rows)) (now (a .ordering)) (l .loop .j)
+answered c =
+    let p = c .before .before .before in
+    let v = p .before .before in
+    let l = v .before .before in
+    let a = l .before .before .before .before .args in
+    let k = searchOf (a .kind .0) in
+    c .is-beaten .ensures
+    ∙ ap (beatenIn k (l .loop .labels) (c .before .common .result)) (label-of k (getD (l .loop .labels) (v .vertex-at .result .0) 0) (p .profile-of .ensures))
+    ∙ asked k (now (a .rows)) (now (a .ordering)) (a .k) (l .loop .inv) (v .vertex-at .ensures) (c .before .common .ensures)
 
 returns : tie.Need-returns Inv-loop μ-loop
 returns c =
@@ -60,11 +86,10 @@ returns c =
     let l = v .before .before in
     let s = l .before .before .before .before in
     let k = searchOf (s .args .kind .0) in
-    let w = s .args .ordering .now in
-    let r = s .args .rows .now in (
-      replay-stop k r w (s .args .k) (l .loop .inv) (v .before .loop-test .taken)
-          (said-true (stopsAt k r w (l .loop .j)) (c .before .is-beaten .ensures ∙ asked k r w (s .args .k) (l .loop .inv) (v .vertex-at .ensures) (c .before .before .common .ensures)) (c .if1 .taken)),
-      (l .loop .inv .unplaced, (l .loop .inv .met, l .loop .inv .labelled)),
+    let w = now (s .args .ordering) in
+    let r = now (s .args .rows) in (
+      replay-stop k r w (s .args .k) (l .loop .inv) (v .before .loop-test .taken) (said-true (stopsAt k r w (l .loop .j)) (answered (c .before)) (c .if1 .taken)),
+      (l .loop .inv .set, (l .loop .inv .unplaced, (l .loop .inv .met, l .loop .inv .labelled))),
     )
 
 row-of-requires : tie.Need-row-of-requires Inv-loop μ-loop
@@ -72,6 +97,12 @@ row-of-requires c κs = search needs
 
 spread-requires : tie.Need-spread-requires Inv-loop μ-loop
 spread-requires c κs = search needs
+
+cast-insert : tie.Need-cast-insert Inv-loop μ-loop
+cast-insert c = search needs
+
+insert-requires : tie.Need-insert-requires Inv-loop μ-loop
+insert-requires c κs = search needs
 
 cast-remove : tie.Need-cast-remove Inv-loop μ-loop
 cast-remove c = search needs
@@ -83,40 +114,44 @@ union-requires : tie.Need-union-requires Inv-loop μ-loop
 union-requires c κs = search needs
 
 add-j : tie.Need-add-j Inv-loop μ-loop
-add-j c = search needs
+add-j c = let v = c .before .before .before .before .before .before .before .before .before .before .before .before .before .before in let s = v .before .before .before .before .before .before in omega (arith, v .before .loop-test .taken, s .fits .k .fits)
 
 loop-less : tie.Need-loop-less Inv-loop μ-loop
 loop-less c = search needs
 
 loop-again : tie.Need-loop-again Inv-loop μ-loop
 loop-again c =
-    let placed = c .before .before .before in
+    let removed = c .before in
+    let inserted = removed .before .before in
+    let placed = inserted .before .before in
     let row = placed .before .before in
     let beaten = row .before .before in
     let v = beaten .before .before .before .before .before in
     let l = v .before .before in
     let s = l .before .before .before .before in
     let k = searchOf (s .args .kind .0) in
-    let w = s .args .ordering .now in
-    let r = s .args .rows .now in
-    replay-next k r w (s .args .k) (placed .spread .last .0) (c .before .remove .result) (c .union .result) (l .loop .inv) (v .before .loop-test .taken) (v .vertex-at .ensures)
-    (said-false (stopsAt k r w (l .loop .j)) (beaten .is-beaten .ensures ∙ asked k r w (s .args .k) (l .loop .inv) (v .vertex-at .ensures) (beaten .before .common .ensures))
-    (row .before .if1 .left))
-    (placed .spread .ensures ∙ ap (λ (x : ℕ). spreadTo x (l .loop .j) (length r) (l .loop .labels)) (row .row-of .ensures)) (c .before .remove .ensures)
-    (c .union .ensures ∙ ap (λ (x : ℕ). united (l .loop .reached) x) (row .row-of .ensures))
+    let w = now (s .args .ordering) in
+    let r = now (s .args .rows) in
+    replay-next k r w (s .args .k) (placed .spread .last .0) (inserted .insert .result) (removed .remove .result) (c .union .result) (l .loop .inv)
+    (v .before .loop-test .taken) (v .vertex-at .ensures) (said-false (stopsAt k r w (l .loop .j)) (answered beaten) (row .before .if1 .left))
+    (placed .spread .ensures ∙ ap (λ (x : ℕ). spreadTo x (l .loop .j) (length r) (l .loop .labels)) (row .row-of .ensures)) (inserted .insert .ensures)
+    (removed .remove .ensures) (c .union .ensures ∙ ap (λ (x : ℕ). united (l .loop .reached) x) (row .row-of .ensures))
 
 returns-2 : tie.Need-returns-2 Inv-loop μ-loop
 returns-2 c =
     let l = c .before in
     let s = l .before .before .before .before in
     let k = searchOf (s .args .kind .0) in
-    let w = s .args .ordering .now in
-    let r = s .args .rows .now in
+    let w = now (s .args .ordering) in
+    let r = now (s .args .rows) in
     let e : l .loop .j ≡ s .args .k = omega (arith, l .loop .inv .upto) in (
       sym e ∙ replay-end k r w (s .args .k) (l .loop .inv) (omega arith),
       (
-        l .loop .inv .unplaced ∙ ap (λ (m : ℕ). freeAfter (length r) w m) e,
-        (l .loop .inv .met ∙ ap (λ (m : ℕ). reachedAfter r w m) e, l .loop .inv .labelled ∙ ap (λ (m : ℕ). labelsAfter r w m) e),
+        l .loop .inv .set ∙ ap (λ (m : ℕ). placedAfter w m) e,
+        (
+          l .loop .inv .unplaced ∙ ap (λ (m : ℕ). freeAfter (length r) w m) e,
+          (l .loop .inv .met ∙ ap (λ (m : ℕ). reachedAfter r w m) e, l .loop .inv .labelled ∙ ap (λ (m : ℕ). labelsAfter r w m) e),
+        ),
       ),
     )
 
@@ -129,14 +164,14 @@ replay-spec =
     full-below-requires
     loop-holds
     vertex-at-requires
-    cast-mine
-    mul-mine
-    element-copy-out-mine
+    profile-of-requires
     common-requires
     is-beaten-requires
     returns
     row-of-requires
     spread-requires
+    cast-insert
+    insert-requires
     cast-remove
     remove-requires
     union-requires

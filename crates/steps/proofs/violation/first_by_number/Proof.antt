@@ -2,7 +2,7 @@
 -- is the word that is left.
 -- Assumes nothing.
 use Prim.Native.Nat.{ℕ, _<_}
-use mathlib.Core.Path.{sym, subst}
+use mathlib.Core.Path.{_≡_, sym, ap, _∙_, subst}
 use lib.Dec.{T}
 use lib.ListN.{getD}
 use native.Mathlib.Omega.{arith}
@@ -12,15 +12,16 @@ use Rattle.bitset.proofs.Tests.{said-true, said-false}
 use Rattle.bitset.proofs.Scan.{Scanned, scan-start, scan-next, first-member, removed-less, taken-out}
 use Rattle.searches.specs.Kind.{searchOf}
 use Rattle.labels.specs.Words.{unexcusedIn}
+use Rattle.labels.proofs.Profiles.{label-of, profile-own}
 use Rattle.steps.proofs.Searching.{scanned-first, scanned-none}
 use Rattle.steps.proofs.violation.first_by_number.Statement.{statement}
 use Rattle.steps.proofs.violation.first_by_number.Tie as tie
 
 abbrev Inv-loop : tie.InvT-loop
-Inv-loop kind labels front i mine rest₀ rest = Scanned 64 front (λ c. unexcusedIn (searchOf (kind .0)) (i .0) (getD labels c 0) mine) rest
+Inv-loop kind rows labels placed front i mine rest₀ rest = Scanned 64 front (λ c. unexcusedIn (searchOf (kind .0)) (i .0) (getD labels c 0) (mine .label)) rest
 
 abbrev μ-loop : tie.MeasureT-loop
-μ-loop kind labels front i mine rest₀ rest = rest
+μ-loop kind rows labels placed front i mine rest₀ rest = rest
 
 -- the smallest number of what is left is in it
 found : (c : tie.After-smallest Inv-loop μ-loop) → (c .smallest .result < 64) × T (member (c .before .before .loop .rest) (c .smallest .result))
@@ -29,30 +30,40 @@ found c =
     subst (λ (u : ℕ). (u < 64) × T (member rest u)) (sym (c .smallest .ensures)) (first-member rest (c .before .before .loop .inv .word) (omega arith))
 
 loop-holds : tie.Need-loop-holds Inv-loop μ-loop
-loop-holds c = scan-start _ _ (c .fits .front .fits)
+loop-holds c = scan-start _ _ (c .before .fits .front .fits)
 
 smallest-requires : tie.Need-smallest-requires Inv-loop μ-loop
 smallest-requires c κs = search needs
 
-mul-is-unexcused : tie.Need-mul-is-unexcused Inv-loop μ-loop
-mul-is-unexcused c = omega (arith, found c .0)
+cast-t12 : tie.Need-cast-t12 Inv-loop μ-loop
+cast-t12 c = omega (arith, found c .0)
 
-element-copy-out-is-unexcused : tie.Need-element-copy-out-is-unexcused Inv-loop μ-loop
-element-copy-out-is-unexcused c = found c .0
+profile-of-requires : tie.Need-profile-of-requires Inv-loop μ-loop
+profile-of-requires c κs = (found c .0, c .before .before .before .before .pre .2)
 
 is-unexcused-requires : tie.Need-is-unexcused-requires Inv-loop μ-loop
-is-unexcused-requires c κs = search needs
+is-unexcused-requires c κs =
+    let s = c .before .before .before .before .before in
+    let a = s .args in
+    (s .pre .0, profile-own (searchOf (a .kind .0)) (getD (a .labels .now) (c .before .smallest .result) 0) (c .profile-of .ensures), s .pre .1)
 
-cast-number : tie.Need-cast-number Inv-loop μ-loop
-cast-number c = omega (arith, found (c .before .before .before) .0)
+-- whether the smallest number of what is left completes a violation
+answered : (c : tie.After-is-unexcused Inv-loop μ-loop)
+    → let a = c .before .before .before .before .before .before .args in
+    c .is-unexcused .result ≡ unexcusedIn (searchOf (a .kind .0)) (a .i .0) (getD (a .labels .now) (c .before .before .smallest .result) 0) (a .mine .label)
+answered c =
+    let a = c .before .before .before .before .before .before .args in
+    let s = searchOf (a .kind .0) in
+    c .is-unexcused .ensures
+    ∙ ap (λ (x : ℕ). unexcusedIn s (a .i .0) x (a .mine .label)) (label-of s (getD (a .labels .now) (c .before .before .smallest .result) 0) (c .before .profile-of .ensures))
 
 returns : tie.Need-returns Inv-loop μ-loop
 returns c =
     let n = c .before .before .before in
     let l = n .before .before in
-    let a = l .before .args in
-    scanned-first (searchOf (a .kind .0)) (a .labels .now) (a .front) (a .i .0) (a .mine) (l .loop .inv) (n .smallest .ensures) (found n .0) (found n .1)
-    (said-true _ (c .before .is-unexcused .ensures) (c .if1 .taken))
+    let a = l .before .before .args in
+    scanned-first (searchOf (a .kind .0)) (a .labels .now) (a .front) (a .i .0) (a .mine .label) (l .loop .inv) (n .smallest .ensures) (found n .0) (found n .1)
+    (said-true _ (answered (c .before)) (c .if1 .taken))
 
 without-smallest-requires : tie.Need-without-smallest-requires Inv-loop μ-loop
 without-smallest-requires c κs = search needs
@@ -68,13 +79,13 @@ loop-again c =
     let n = c .before .before .before .before in
     let l = n .before .before in
     rw (taken-out (l .loop .rest) (c .without-smallest .ensures) (n .smallest .ensures))
-    (scan-next (l .loop .inv) (n .smallest .result) (λ _. said-false _ (c .before .before .is-unexcused .ensures) (c .before .if1 .left)))
+    (scan-next (l .loop .inv) (n .smallest .result) (λ _. said-false _ (answered (c .before .before)) (c .before .if1 .left)))
 
 returns-2 : tie.Need-returns-2 Inv-loop μ-loop
 returns-2 c =
     let l = c .before in
-    let a = l .before .args in
-    scanned-none (searchOf (a .kind .0)) (a .labels .now) (a .front) (a .i .0) (a .mine) (l .loop .inv) (c .loop-test .left)
+    let a = l .before .before .args in
+    scanned-none (searchOf (a .kind .0)) (a .labels .now) (a .front) (a .i .0) (a .mine .label) (l .loop .inv) (c .loop-test .left)
 
 pub first-by-number-spec : {M : Type 1} → statement M
 first-by-number-spec =
@@ -84,10 +95,9 @@ first-by-number-spec =
     μ-loop
     loop-holds
     smallest-requires
-    mul-is-unexcused
-    element-copy-out-is-unexcused
+    cast-t12
+    profile-of-requires
     is-unexcused-requires
-    cast-number
     returns
     without-smallest-requires
     loop-less

@@ -1,7 +1,7 @@
 -- `steps::violation::first_first` meets its contract: no position that was passed starts a violation.
 -- Assumes nothing.
 use Prim.Native.Nat.{ℕ, _-_, _<_, _≤_}
-use mathlib.Core.Path.{ap}
+use mathlib.Core.Path.{ap, _∙_}
 use native.Mathlib.Omega.{arith}
 use lib.Dec.{T}
 use lib.ListN.{getD}
@@ -9,60 +9,63 @@ use borrow.Author.Needs.{needs}
 use Rattle.bitset.proofs.Tests.{is-true, is-false}
 use Rattle.bitset.proofs.Passed.{Passed, passed-start, passed-more, first-found, first-unfound}
 use Rattle.searches.specs.Kind.{searchOf}
+use Rattle.labels.proofs.Profiles.{label-of, profile-own}
 use Rattle.steps.specs.Steps.{firstIn}
 use Rattle.steps.proofs.Completing.{front-at, first-there, first-nowhere}
 use Rattle.steps.proofs.violation.first_first.Statement.{statement}
 use Rattle.steps.proofs.violation.first_first.Tie as tie
 
 abbrev Inv-loop : tie.InvT-loop
-Inv-loop kind rows ordering k labels free j b mine middle i₀ i =
+Inv-loop kind rows ordering k labels placed free j b mine middle i₀ i =
     Passed middle (firstIn (searchOf (kind .0)) rows ordering labels free (j .0) k) i
 
 abbrev μ-loop : tie.MeasureT-loop
-μ-loop kind rows ordering k labels free j b mine middle i₀ i = middle - i
+μ-loop kind rows ordering k labels placed free j b mine middle i₀ i = middle - i
 
 vertex-at-requires : tie.Need-vertex-at-requires Inv-loop μ-loop
 vertex-at-requires c κs = let s = c .before .before in omega (arith, s .pre .inside, s .pre .long)
 
-cast-mine : tie.Need-cast-mine Inv-loop μ-loop
-cast-mine c = search needs
-
-mul-mine : tie.Need-mul-mine Inv-loop μ-loop
-mul-mine c = search needs
-
-element-copy-out-mine : tie.Need-element-copy-out-mine Inv-loop μ-loop
-element-copy-out-mine c =
-    let s = c .before .before .before .before in
-    omega (arith, c .before .vertex-at .ensures, s .pre .small, s .pre .vertices (s .args .j .0) (s .pre .inside))
+profile-of-requires : tie.Need-profile-of-requires Inv-loop μ-loop
+profile-of-requires c κs =
+    let s = c .before .before .before in
+    (omega (arith, c .vertex-at .ensures, s .pre .small, s .pre .vertices (s .args .j .0) (s .pre .inside)), s .pre .tallied)
 
 loop-holds : tie.Need-loop-holds Inv-loop μ-loop
 loop-holds c = passed-start _ _
 
 vertex-at-requires-2 : tie.Need-vertex-at-requires-2 Inv-loop μ-loop
-vertex-at-requires-2 c κs = let s = c .before .before .before .before .before .before .before in omega (arith, s .pre .inside, s .pre .long)
+vertex-at-requires-2 c κs = let s = c .before .before .before .before .before .before in omega (arith, s .pre .inside, s .pre .long)
 
 front-of-requires : tie.Need-front-of-requires Inv-loop μ-loop
 front-of-requires c κs = tt
 
 first-by-number-requires : tie.Need-first-by-number-requires Inv-loop μ-loop
 first-by-number-requires c κs =
-    let s = c .before .before .before .before .before .before .before .before .before in
-    omega (arith, s .pre .inside, s .pre .fits, s .pre .small)
+    let m = c .before .before .before .before in
+    let s = m .before .before .before .before in
+    let a = s .args in (
+      omega (arith, s .pre .inside, s .pre .fits, s .pre .small),
+      profile-own (searchOf (a .kind .0)) (getD (a .labels .now) (m .before .vertex-at .result .0) 0) (m .profile-of .ensures),
+      s .pre .tallied,
+    )
 
 -- what the search by number says of position i
 starts : (c : tie.After-first-by-number Inv-loop μ-loop)
-    → let s = c .before .before .before .before .before .before .before .before .before .before in
+    → let s = c .before .before .before .before .before .before .before .before .before in
     let a = s .args in
     let test = firstIn (searchOf (a .kind .0)) (a .rows .now) (a .ordering .now) (a .labels .now) (a .free) (a .j .0) (a .k) (c .before .before .before .before .loop .i) in
     (c .first-by-number .result .0 < 64 → T test) × (64 ≤ c .first-by-number .result .0 → T test → ⊥)
 starts c =
     let l = c .before .before .before .before in
-    let b = l .before .before .before in
+    let m = l .before in
+    let b = m .before in
     let s = b .before .before .before in
     let a = s .args in
     let k = searchOf (a .kind .0) in
     let front = front-at (a .rows .now) (a .ordering .now) (a .free) (l .loop .i) (a .j .0) (c .before .before .vertex-at2 .ensures) (b .vertex-at .ensures) (c .before .front-of .ensures) in
-    let mine = ap (λ (v : ℕ). getD (a .labels .now) v 0) (b .vertex-at .ensures) in (
+    let mine =
+    label-of k (getD (a .labels .now) (b .vertex-at .result .0) 0) (m .profile-of .ensures) ∙ ap (λ (v : ℕ). getD (a .labels .now) v 0) (b .vertex-at .ensures)
+    in (
       first-there k (a .rows .now) (a .ordering .now) (a .labels .now) (a .free) (a .k) (a .j .0) (l .loop .i) front mine (s .pre) (c .first-by-number .ensures),
       first-nowhere k (a .rows .now) (a .ordering .now) (a .labels .now) (a .free) (a .k) (a .j .0) (l .loop .i) front mine (s .pre) (c .first-by-number .ensures),
     )
@@ -94,9 +97,7 @@ first-first-spec =
     Inv-loop
     μ-loop
     vertex-at-requires
-    cast-mine
-    mul-mine
-    element-copy-out-mine
+    profile-of-requires
     loop-holds
     vertex-at-requires-2
     front-of-requires

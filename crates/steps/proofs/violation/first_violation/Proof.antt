@@ -1,13 +1,14 @@
 -- `steps::violation::first_violation` meets its contract: the two searches found what is shown.
 -- Assumes nothing.
 use Prim.Native.Nat.{ℕ, _<_}
-use mathlib.Core.Path.{ap}
+use mathlib.Core.Path.{ap, _∙_}
 use native.Mathlib.Omega.{arith}
 use lib.Dec.{T}
 use lib.ListN.{getD}
 use borrow.Author.Needs.{needs}
 use Rattle.searches.specs.Kind.{searchOf}
 use Rattle.searches.specs.Answer.{verdictOf}
+use Rattle.labels.proofs.Profiles.{label-of, profile-own}
 use Rattle.steps.specs.Steps.{firstIn}
 use Rattle.steps.proofs.Completing.{front-at, last-third}
 use Rattle.steps.proofs.Searching.{first-starts, shown}
@@ -36,39 +37,40 @@ vertex-at-requires-2 c κs = search needs
 front-of-requires : tie.Need-front-of-requires
 front-of-requires c κs = search needs
 
-cast-first-last : tie.Need-cast-first-last
-cast-first-last c = search needs
-
-mul-first-last : tie.Need-mul-first-last
-mul-first-last c = search needs
-
-element-copy-out-first-last : tie.Need-element-copy-out-first-last
-element-copy-out-first-last c =
-    let b = c .before .before in
+profile-of-requires : tie.Need-profile-of-requires
+profile-of-requires c κs =
+    let b = c .before in
     let s = b .before .before .before .before .before in
-    omega (arith, b .vertex-at2 .ensures, s .pre .0 .small, s .pre .0 .vertices (s .args .j .0) (s .pre .0 .inside))
+    (omega (arith, b .vertex-at2 .ensures, s .pre .0 .small, s .pre .0 .vertices (s .args .j .0) (s .pre .0 .inside)), s .pre .0 .tallied)
 
 first-last-requires : tie.Need-first-last-requires
 first-last-requires c κs =
-    let f = c .before .before .before .before .before in
+    let b = c .before .before in
+    let f = b .before .before in
     let s = f .before .before .before in
-    record {
-      long = s .pre .0 .long;
-      inside = s .pre .0 .inside;
-      bit = omega (arith, starts f .0, s .pre .0 .inside, s .pre .0 .fits, s .pre .0 .small);
-    }
+    let a = s .args in (
+      record {
+        long = s .pre .0 .long;
+        inside = s .pre .0 .inside;
+        bit = omega (arith, starts f .0, s .pre .0 .inside, s .pre .0 .fits, s .pre .0 .small);
+      },
+      profile-own (searchOf (a .kind .0)) (getD (a .labels .now) (b .vertex-at2 .result .0) 0) (c .profile-of .ensures),
+      s .pre .0 .tallied,
+    )
 
 returns : tie.Need-returns
 unfolding verdictOf
 returns c =
-    let b = c .before .before .before .before in
+    let b = c .before .before .before in
     let f = b .before .before in
     let s = f .before .before .before in
     let a = s .args in
     let k = searchOf (a .kind .0) in
     let i = f .first-first .result .0 in
-    let front = front-at (a .rows .now) (a .ordering .now) (a .free) i (a .j .0) (b .before .vertex-at .ensures) (b .vertex-at2 .ensures) (c .before .before .before .front-of .ensures) in
-    let mine = ap (λ (v : ℕ). getD (a .labels .now) v 0) (b .vertex-at2 .ensures) in
+    let front = front-at (a .rows .now) (a .ordering .now) (a .free) i (a .j .0) (b .before .vertex-at .ensures) (b .vertex-at2 .ensures) (c .before .before .front-of .ensures) in
+    let mine =
+    label-of k (getD (a .labels .now) (b .vertex-at2 .result .0) 0) (c .before .profile-of .ensures) ∙ ap (λ (v : ℕ). getD (a .labels .now) v 0) (b .vertex-at2 .ensures)
+    in
     shown k (a .rows .now) (a .ordering .now) (a .labels .now) (a .free) (a .j .0) (a .k) i (f .first-first .ensures) (b .before .vertex-at .ensures) (b .vertex-at2 .ensures)
     (last-third k (a .rows .now) (a .ordering .now) (a .labels .now) (a .free) (a .k) (a .j .0) i front mine (s .pre .0) (c .first-last .ensures) (starts f .1))
 
@@ -80,8 +82,6 @@ first-violation-spec =
     vertex-at-requires
     vertex-at-requires-2
     front-of-requires
-    cast-first-last
-    mul-first-last
-    element-copy-out-first-last
+    profile-of-requires
     first-last-requires
     returns)

@@ -2,13 +2,14 @@
 -- Assumes nothing.
 use mathlib.Core.Path.{_≡_, refl, sym, _∙_, subst}
 use mathlib.Core.Bool.{Bool}
+use native.Mathlib.Omega.{arith}
 use lib.Dec.{T}
 use lib.ListN.{length}
 use borrow.Author.Needs.{needs}
 use Rattle.bitset.proofs.Tests.{is-true, not-true, not-false}
 use Rattle.searches.specs.Answer.{refusalOf, number}
 use Rattle.traversal.specs.State.{plan, walk, wellFormed}
-use Rattle.traversal.proofs.WellFormed.{parts, surveyed-passes, surveyed-words, well-formed-out, open-offers}
+use Rattle.traversal.proofs.WellFormed.{parts, plan-length, surveyed-passes, surveyed-words, surveyed-tallied, well-formed-out, open-offers}
 use Rattle.traversal.proofs.Answered.{offered-whole, offered-refused}
 use Rattle.traversal.proofs.Traversal.offered.Statement.{statement}
 use Rattle.traversal.proofs.Traversal.offered.Tie as tie
@@ -41,15 +42,29 @@ sound c =
     let t = c .before .before .before .before .before .before .before .args .self in
     subst (λ (b : Bool). T b) (sym (not-false (asked .result .passes) (c .if1 .left)) ∙ surveyed-passes t (asked .ensures)) tt
 
+array-share-prefix-rows : tie.Need-array-share-prefix-rows
+array-share-prefix-rows c = let s = c .before .before .before .before .before .before .before in omega (arith, parts (s .args .self) (sound c) .points, arrays s .0)
+
+slice-aggregate-open-below : tie.Need-slice-aggregate-open-below
+unfolding plan
+slice-aggregate-open-below c =
+    let past = c .before in
+    let s = past .before .before .before .before .before .before .before in
+    let full = arrays s in
+    sym (plan-length (s .args .self) (full .0) (full .1) (parts (s .args .self) (sound past) .points))
+
 open-below-requires : tie.Need-open-below-requires
+unfolding plan
 open-below-requires c κs =
-    let past = c .before .before in
-    parts (past .before .before .before .before .before .before .before .args .self) (sound past) .points
+    let past = c .before .before .before in
+    let s = past .before .before .before .before .before .before .before in
+    let full = arrays s in
+    (parts (s .args .self) (sound past) .points, surveyed-tallied (s .args .self) (full .0) (full .1) (past .before .survey .ensures) (sound past))
 
 returns-2 : tie.Need-returns-2
 unfolding refusalOf plan walk
 returns-2 c =
-    let past = c .before .before .before in
+    let past = c .before .before .before .before in
     let asked = past .before .survey in
     let s = past .before .before .before .before .before .before .before in
     let t = s .args .self in
@@ -67,5 +82,7 @@ offered-spec =
     slice-aggregate-survey-2
     survey-requires
     returns
+    array-share-prefix-rows
+    slice-aggregate-open-below
     open-below-requires
     returns-2)

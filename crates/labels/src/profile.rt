@@ -1,0 +1,45 @@
+// What a comparison looks at: one value for a vertex, made here and nowhere else.
+use searches::Kind;
+use searches::Vertex;
+ghost use mathlib.Core.Path.{_≡_};
+ghost use Prim.Native.Nat.{_<_};
+ghost use lib.ListN.{getD};
+ghost use Rattle.searches.specs.Kind.{searchOf};
+ghost use Rattle.labels.specs.Words.{tally, profileOf, Tallied};
+
+// What is compared of a vertex: its label, and for MCS how many positions the label holds. In every other search the count is 0.
+pub struct Profile {
+    pub label: u64,
+    pub count: usize,
+}
+
+// How many ones are in the row of `vertex` and in `placed`. Where links go both ways, these are the placed vertices that lead to it.
+fn count(rows: &[u64], placed: u64, vertex: Vertex) -> usize
+    ensures { λ r. ⌜ r ≡ tally (now (rows .entry)) placed (vertex .0) ⌝ }
+{
+    let v = vertex.0 as usize;
+    let row = if v < rows.len() { rows[v] } else { 0 };
+    bitset::size(bitset::common(row, placed))
+}
+
+// What is compared of `vertex`. `labels` and the set `placed` are those of one moment.
+pub fn profile_of(
+    kind: Kind,
+    rows: &[u64],
+    labels: &[u64; 64],
+    placed: u64,
+    vertex: Vertex,
+) -> Profile
+    requires { ⌜ (vertex .0 < 64) × Tallied (now rows) (now labels) placed ⌝ }
+    ensures { λ r. ⌜ r ≡ profileOf (searchOf (kind .0)) (getD (now (labels .entry)) (vertex .0) 0) ⌝ }
+{
+    let v = vertex.0 as usize;
+    let label = labels[v];
+    if kind.0 == Kind::MCS.0 {
+        return Profile {
+            label,
+            count: count(rows, placed, vertex),
+        };
+    }
+    Profile { label, count: 0 }
+}

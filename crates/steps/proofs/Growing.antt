@@ -1,0 +1,156 @@
+-- The words after an ordering that grows by one vertex, and the vertex that they choose.
+--   labels-agree, free-agree, set-agree   the words after the first j vertices depend on no others
+--   labels-grown, free-grown, set-grown   the words after one vertex more
+--   choice-same                    the choice is the vertex that the words choose
+--   ordering-grown                 an ordering with an unplaced vertex behind it is an ordering
+--   along-start, along-next        words along an ordering, from its start on;   along-tallied   what is counted there
+-- Assumes nothing.
+use mathlib.Core.Path.{_≡_, refl, sym, ap, ap₂, _∙_, subst}
+use mathlib.Core.Bool.{Bool}
+use mathlib.Core.Logic.{_⊎_, inl, inr}
+use mathlib.Core.List.{List, [], _∷_, _++_}
+use Prim.Native.Nat.{ℕ, zero, suc, _+_, _≤_, _<_}
+use native.Mathlib.Omega.{arith}
+use native.Mathlib.Numerals.{add-one}
+use lib.Dec.{T}
+use lib.ListN.{length, getD, take}
+use lib.Seq.{length-take-le}
+use Rattle.bitset.specs.Word.{inserted, removed}
+use Rattle.bitset.proofs.Tests.{below-suc}
+use Rattle.bitset.proofs.Below.{last-same}
+use Rattle.searches.specs.Kind.{Search}
+use Rattle.searches.specs.Ordering.{arcs, at, placed, IsOrdering, IsFullOrdering}
+use Rattle.searches.specs.Run.{offered}
+use Rattle.searches.specs.CarryOn.{choice}
+use Rattle.searches.proofs.Ordering.{Agree, agree-sym, agree-fewer, take-agree, placed-in, ordering-agree, length-grown, grown-agree, grown-last}
+use Rattle.searches.proofs.Run.{offered-out}
+use Rattle.searches.proofs.CarryOn.{chosen-offered}
+use Rattle.labels.specs.Words.{Tallied, spreadTo, openIn, chosenIn}
+use Rattle.steps.specs.Steps.{labelsAfter, freeAfter, placedAfter, BothWays, Along}
+use Rattle.steps.proofs.Representation.{open-offered}
+use Rattle.steps.proofs.Tallying.{tallied-after}
+
+-- ---- only the first j vertices matter
+
+pub labels-agree : (rows w w′ : List ℕ) (j : ℕ) → Agree j w w′ → labelsAfter rows w j ≡ labelsAfter rows w′ j
+unfolding labelsAfter
+labels-agree rows w w′ zero a = refl
+labels-agree rows w w′ (suc j) a =
+    ap₂ (λ (v : ℕ) (labels : List ℕ). spreadTo (getD rows v 0) j (length rows) labels) (a j (omega arith))
+    (labels-agree rows w w′ j (agree-fewer j (suc j) w w′ (omega arith) a))
+
+pub free-agree : (n : ℕ) (w w′ : List ℕ) (j : ℕ) → Agree j w w′ → freeAfter n w j ≡ freeAfter n w′ j
+unfolding freeAfter
+free-agree n w w′ zero a = refl
+free-agree n w w′ (suc j) a =
+    ap₂ (λ (free v : ℕ). removed free v) (free-agree n w w′ j (agree-fewer j (suc j) w w′ (omega arith) a)) (a j (omega arith))
+
+pub set-agree : (w w′ : List ℕ) (j : ℕ) → Agree j w w′ → placedAfter w j ≡ placedAfter w′ j
+unfolding placedAfter
+set-agree w w′ zero a = refl
+set-agree w w′ (suc j) a =
+    ap₂ (λ (set v : ℕ). inserted set v) (set-agree w w′ j (agree-fewer j (suc j) w w′ (omega arith) a)) (a j (omega arith))
+
+module _ (w : List ℕ) (v : ℕ) where
+  pub labels-grown : (rows : List ℕ)
+      → labelsAfter rows (w ++ v ∷ []) (suc (length w)) ≡ spreadTo (getD rows v 0) (length w) (length rows) (labelsAfter rows w (length w))
+  unfolding labelsAfter
+  labels-grown rows =
+      ap₂ (λ (x : ℕ) (labels : List ℕ). spreadTo (getD rows x 0) (length w) (length rows) labels) (grown-last w v)
+      (labels-agree rows (w ++ v ∷ []) w (length w) (grown-agree w v))
+
+  pub free-grown : (n : ℕ) → freeAfter n (w ++ v ∷ []) (suc (length w)) ≡ removed (freeAfter n w (length w)) v
+  unfolding freeAfter
+  free-grown n = ap₂ (λ (free x : ℕ). removed free x) (free-agree n (w ++ v ∷ []) w (length w) (grown-agree w v)) (grown-last w v)
+
+  pub set-grown : placedAfter (w ++ v ∷ []) (suc (length w)) ≡ inserted (placedAfter w (length w)) v
+  unfolding placedAfter
+  set-grown = ap₂ (λ (set x : ℕ). inserted set x) (set-agree (w ++ v ∷ []) w (length w) (grown-agree w v)) (grown-last w v)
+
+  ordering-grown : {n : ℕ} → IsOrdering n w (length w) → v < n → (T (placed w (length w) v) → ⊥) → IsOrdering n (w ++ v ∷ []) (suc (length w))
+  ordering-grown {n} o l out = record {
+    long = omega (arith, length-grown w v);
+    vertices = λ p h. inside p (below-suc (length w) p h);
+    distinct = λ p q g h same. apart p q g same (below-suc (length w) q h);
+  }
+    where
+      inside : (p : ℕ) → (p < length w) ⊎ (p ≡ length w) → at (w ++ v ∷ []) p < n
+      inside p (inl h) = subst (λ (x : ℕ). x < n) (sym (grown-agree w v p h)) (o .vertices p h)
+      inside p (inr e) = subst (λ (x : ℕ). x < n) (sym (ap (at (w ++ v ∷ [])) e ∙ grown-last w v)) l
+
+      apart : (p q : ℕ) → p < q → at (w ++ v ∷ []) p ≡ at (w ++ v ∷ []) q → (q < length w) ⊎ (q ≡ length w) → ⊥
+      apart p q g same (inl h) = o .distinct p q g h (sym (grown-agree w v p (omega arith)) ∙ same ∙ grown-agree w v q h)
+      apart p q g same (inr e) =
+          out (placed-in w (length w) v p (omega arith) (sym (grown-agree w v p (omega arith)) ∙ same ∙ ap (at (w ++ v ∷ [])) e ∙ grown-last w v))
+
+module _ (s : Search) (rows : List ℕ) (small : length rows ≤ 64) where
+  abbrev n : ℕ
+  n = length rows
+
+  abbrev arc : ℕ → ℕ → Bool
+  arc = arcs rows
+
+  pub choice-same : (t w : List ℕ) (k : ℕ) → IsOrdering n w k
+      → choice s arc n t w k ≡ chosenIn s (labelsAfter rows w k) (freeAfter n w k) t
+  unfolding choice chosenIn
+  choice-same t w k o =
+      ap (λ (q : ℕ). at t q) (last-same (length t)
+      (λ q. offered s arc n w k (at t q)) (λ q. openIn s (labelsAfter rows w k) (freeAfter n w k) (at t q))
+      (λ q _. sym (open-offered s rows w k small o k (omega arith) (at t q))))
+
+  -- the chosen vertex is a vertex, and unplaced
+  chosen-fresh : (t w : List ℕ) → IsFullOrdering n t → IsOrdering n w (length w) → length w < n → {v : ℕ} → v ≡ choice s arc n t w (length w)
+      → (v < n) × (T (placed w (length w) v) → ⊥)
+  chosen-fresh t w names o l at-v =
+      let x = offered-out s arc n w (length w) (choice s arc n t w (length w)) (chosen-offered s arc n t names w o l) in
+      (subst (λ (u : ℕ). u < n) (sym at-v) (x .vertex), λ p. x .unplaced (subst (λ (u : ℕ). T (placed w (length w) u)) at-v p))
+
+  pub along-next : (t : List ℕ) → IsFullOrdering n t → {p v set free : ℕ} {labels : List ℕ} (labels′ : List ℕ) (set′ free′ : ℕ) → Along rows p labels set free → p < n
+      → v ≡ chosenIn s labels free t → labels′ ≡ spreadTo (getD rows v 0) p n labels → set′ ≡ inserted set v → free′ ≡ removed free v
+      → Along rows (p + 1) labels′ set′ free′
+  along-next t names {p} {v} {set} {free} {labels} labels′ set′ free′ a l at-v at-labels at-set at-free =
+      subst (λ (m : ℕ). Along rows m labels′ set′ free′) (ap suc (a .long) ∙ sym (add-one p)) (record {
+        walk = w ++ v ∷ [];
+        long = length-grown w v;
+        ordering = ordering-grown w v o (fresh .0) (fresh .1);
+        labelled =
+            at-labels ∙ ap₂ (λ (m : ℕ) (ls : List ℕ). spreadTo (getD rows v 0) m n ls) (sym (a .long)) (after (λ m. labelsAfter rows w m) (a .labelled))
+            ∙ sym (labels-grown w v rows);
+        set = at-set ∙ ap (λ (x : ℕ). inserted x v) (after (λ m. placedAfter w m) (a .set)) ∙ sym (set-grown w v);
+        unplaced = at-free ∙ ap (λ (x : ℕ). removed x v) (after (λ m. freeAfter n w m) (a .unplaced)) ∙ sym (free-grown w v n);
+      })
+    where
+      w : List ℕ
+      w = a .walk
+
+      o : IsOrdering n w (length w)
+      o = subst (λ (m : ℕ). IsOrdering n w m) (sym (a .long)) (a .ordering)
+
+      after : {A : Type 0} {x : A} (f : ℕ → A) → x ≡ f p → x ≡ f (length w)
+      after f e = e ∙ ap f (sym (a .long))
+
+      fresh : (v < n) × (T (placed w (length w) v) → ⊥)
+      fresh =
+          chosen-fresh t w names o (omega (arith, a .long))
+          (at-v ∙ ap₂ (λ (ls : List ℕ) (f : ℕ). chosenIn s ls f t) (after (λ m. labelsAfter rows w m) (a .labelled)) (after (λ m. freeAfter n w m) (a .unplaced))
+          ∙ sym (choice-same t w (length w) o))
+
+module _ (rows : List ℕ) where
+  -- the words after the first k vertices of a list are along an ordering
+  pub along-start : (w : List ℕ) (k : ℕ) → IsOrdering (length rows) w k → Along rows k (labelsAfter rows w k) (placedAfter w k) (freeAfter (length rows) w k)
+  along-start w k o = record {
+    walk = take k w;
+    long = length-take-le k w (o .long);
+    ordering = ordering-agree (length rows) (take k w) (omega (arith, length-take-le k w (o .long))) same o;
+    labelled = labels-agree rows w (take k w) k same;
+    set = set-agree w (take k w) k same;
+    unplaced = free-agree (length rows) w (take k w) k same;
+  }
+    where
+      same : Agree k w (take k w)
+      same = agree-sym k (take k w) w (take-agree k w)
+
+  pub along-tallied : length rows ≤ 64 → BothWays rows → {p set free : ℕ} {labels : List ℕ} → Along rows p labels set free → Tallied rows labels set
+  along-tallied small both-ways {p} {set} {free} {labels} a =
+      subst (λ (x : ℕ). Tallied rows labels x) (sym (a .set))
+      (subst (λ (ls : List ℕ). Tallied rows ls (placedAfter (a .walk) p)) (sym (a .labelled)) (tallied-after rows (a .walk) p small (a .ordering) both-ways p (omega arith)))

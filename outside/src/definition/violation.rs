@@ -1,0 +1,90 @@
+//! Fault triples, from the sentences of 01 and 02, by trying all points.
+//!
+//!   is_violation kind a b c     a, b, c stand in the fault relation                [01, 02: fault triple]
+//!   first_violation kind        the first of them                                  [01: first triple]
+
+use super::{Graph, Kind, Position, Vertex, BFS, DFS, GENERIC, LEX_BFS, LEX_DFS, MCS, MNS};
+
+/// Where each point stands in the walk.
+struct Places(Vec<Option<Position>>);
+
+impl Places {
+    fn of(graph: &Graph, ordering: &[u8]) -> Places {
+        let place = |v: Vertex| ordering.iter().position(|&u| u as Vertex == v);
+        Places(graph.vertices().map(place).collect())
+    }
+
+    fn placed(&self, v: Vertex) -> bool {
+        self.0[v].is_some()
+    }
+
+    /// Both are placed, u before v.
+    fn before(&self, u: Vertex, v: Vertex) -> bool {
+        matches!((self.0[u], self.0[v]), (Some(p), Some(q)) if p < q)
+    }
+
+    /// Placed points go by place and come before unplaced ones, which go by number.
+    fn rank(&self, v: Vertex) -> (bool, usize) {
+        match self.0[v] {
+            Some(p) => (false, p),
+            None => (true, v),
+        }
+    }
+}
+
+/// Where c may stand is said by 01 for six kinds and by 02 for MCS. The last condition is that no point excuses b; in
+/// MCS, that c has more neighbours before b than b has.
+fn is_violation(
+    kind: Kind,
+    graph: &Graph,
+    places: &Places,
+    (a, b, c): (Vertex, Vertex, Vertex),
+) -> bool {
+    let excuses = |d: Vertex| {
+        graph.linked(d, b)
+            && places.before(d, b)
+            && match kind {
+                GENERIC => true,
+                BFS => places.before(d, a),
+                DFS => places.before(a, d),
+                LEX_BFS => places.before(d, a) && !graph.linked(d, c),
+                LEX_DFS => places.before(a, d) && !graph.linked(d, c),
+                MNS => !graph.linked(d, c),
+                _ => unreachable!("no such kind"),
+            }
+    };
+    let neighbours_before_b =
+        |v: Vertex| graph.vertices().filter(|&d| graph.linked(d, v) && places.before(d, b)).count();
+    let later = match kind {
+        MCS => !places.before(c, b),
+        _ => places.before(b, c) || !places.placed(c),
+    };
+    places.before(a, b)
+        && later
+        && graph.linked(a, c)
+        && !graph.linked(a, b)
+        && match kind {
+            MCS => neighbours_before_b(c) > neighbours_before_b(b),
+            _ => !graph.vertices().any(excuses),
+        }
+}
+
+/// The triple with the earliest b, then the earliest a, then the first c.
+pub fn first_violation(
+    kind: Kind,
+    graph: &Graph,
+    ordering: &[u8],
+) -> Option<(Vertex, Vertex, Vertex)> {
+    let places = Places::of(graph, ordering);
+    let mut violations = Vec::new();
+    for a in graph.vertices() {
+        for b in graph.vertices() {
+            for c in graph.vertices() {
+                if is_violation(kind, graph, &places, (a, b, c)) {
+                    violations.push((a, b, c));
+                }
+            }
+        }
+    }
+    violations.into_iter().min_by_key(|&(a, b, c)| (places.rank(b), places.rank(a), places.rank(c)))
+}
