@@ -25,5 +25,8 @@ pub fn number(refusal: Refusal) -> u32
         Refusal::AlreadyPlaced => 15,
         Refusal::NotOffered => 16,
         Refusal::NothingToTakeBack => 17,
+        Refusal::MalformedMinutes => 18,
+        Refusal::RateTooHigh => 19,
+        Refusal::OrderingFails => 20,
     }
 }

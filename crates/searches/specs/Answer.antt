@@ -129,6 +129,9 @@ number Refusal.AllPlaced = 14
 number Refusal.AlreadyPlaced = 15
 number Refusal.NotOffered = 16
 number Refusal.NothingToTakeBack = 17
+number Refusal.MalformedMinutes = 18
+number Refusal.RateTooHigh = 19
+number Refusal.OrderingFails = 20
 
 unfoldable pub verdictOf : Judgement → Verdict
 verdictOf Judgement.Passes = passes

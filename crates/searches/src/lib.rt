@@ -35,7 +35,7 @@ pub struct Violation {
     pub c: Vertex,
 }
 
-// Why a call is refused. The comment of each is its number in 01.
+// Why a call is refused. The comment of each is its number in 01; from 18 on, in 02.
 pub enum Refusal {
     // 1
     UnknownKind,
@@ -71,6 +71,12 @@ pub enum Refusal {
     NotOffered,
     // 17
     NothingToTakeBack,
+    // 18
+    MalformedMinutes,
+    // 19
+    RateTooHigh,
+    // 20
+    OrderingFails,
 }
 
 // What judging an ordering answers.

@@ -1,0 +1,183 @@
+-- What charging refuses, and what is known of the lists where it refuses nothing.
+--   malformed-in, malformed-out              what 18's test means
+--   judged-refused, judged-decided           what judge's verdict leaves of the tests: its refusal, or those after it
+--   chargeable-in, chargeable-out            nothing is refused exactly where every condition holds
+--   length-bounded, charged-minutes-bounded, product-bounded   how many points, minutes and sixtieths of a cent there can then be
+--   charge-refused, charge-accepted          the answer, refused and not;   refused-charge, owed-charge   and what it says
+--   unpassed-fails, fails-unpassed           what 20's test means
+-- Assumes nothing.
+use mathlib.Core.Path.{_≡_, refl, sym, ap, _∙_, subst}
+use mathlib.Core.Logic.{_⊎_, inl, inr}
+use mathlib.Core.Bool.{Bool, true, false, not, _||_}
+use mathlib.Core.List.{List}
+use mathlib.Core.Option.{none, some}
+use Prim.Native.Nat.{ℕ, _≤_, _<_}
+use native.Mathlib.Nat.{mul-le-mul}
+use native.Mathlib.Omega.{arith}
+use lib.Dec.{T, ltb, eqb, ltb→lt, lt→ltb, nltb→le, eqb→eq, eqb-refl, not-T, T-not}
+use lib.ListN.{length, List·getD-eq-default}
+use Rattle.bitset.specs.Below.{anyBelow}
+use Rattle.bitset.proofs.Tests.{or-inl, or-inr, or-out, not-not, below-or}
+use Rattle.bitset.proofs.Below.{any-out, any-at}
+use Rattle.searches.specs.Kind.{searchOf}
+use Rattle.searches.specs.Ordering.{arcs, at, IsOrdering}
+use Rattle.searches.specs.Violation.{Verdict, passes, fails, Fails, judge}
+use Rattle.searches.specs.Violation as violation
+use Rattle.searches.specs.Answer.{isPass, openTests, judgeTests, firstRefusal, Accepts, Refuses, judgeAnswer}
+use Rattle.searches.proofs.Ordering.{ordering-fits}
+use Rattle.searches.proofs.Refusals.{refuses-first, accepts-none, accepts-or-refuses}
+use Rattle.searches.proofs.Answers.{accepts-both, both-accept, valid-small, isPass-out, accepted-ordering, judge-accepted, judge-refused, refused-judge}
+use Rattle.checks.proofs.Tried.{tried-first, refused-before}
+use Rattle.charge.specs.Minutes.{minutesOf}
+use Rattle.charge.specs.Charge.{product, nearestCent, largestMinutes, largestProduct, malformedMinutes, billTests, chargeTests, Chargeable}
+use Rattle.charge.specs.Charge.{owed, refused, chargeAnswer}
+use Rattle.charge.proofs.Adding.{minutes-bounded}
+
+-- ---- the list of minutes
+
+module _ (n : ℕ) (minutes : List ℕ) where
+  pub malformed-in : (length minutes ≡ n → ⊥) ⊎ ((v : ℕ) × (v < length minutes) × (999 < at minutes v)) → T (malformedMinutes n minutes)
+  unfolding malformedMinutes
+  malformed-in (inl other) = or-inl (not (eqb (length minutes) n)) _ (not-T (eqb (length minutes) n) (λ t. other (eqb→eq (length minutes) n t)))
+  malformed-in (inr x) =
+      or-inr (not (eqb (length minutes) n)) _ (any-at (length minutes) (λ i. ltb 999 (at minutes i)) (x .0) (x .1) (lt→ltb 999 (at minutes (x .0)) (x .2)))
+
+  pub malformed-out : T (malformedMinutes n minutes) → (length minutes ≡ n → ⊥) ⊎ ((v : ℕ) × (v < length minutes) × (999 < at minutes v))
+  unfolding malformedMinutes
+  malformed-out t = go (or-out (not (eqb (length minutes) n)) (anyBelow (length minutes) (λ i. ltb 999 (at minutes i))) t)
+    where
+      go : T (not (eqb (length minutes) n)) ⊎ T (anyBelow (length minutes) (λ i. ltb 999 (at minutes i)))
+          → (length minutes ≡ n → ⊥) ⊎ ((v : ℕ) × (v < length minutes) × (999 < at minutes v))
+      go (inl other) = inl (λ e. T-not (eqb (length minutes) n) other (subst (λ (i : ℕ). T (eqb (length minutes) i)) e (eqb-refl (length minutes))))
+      go (inr some-above) =
+          let x = any-out (length minutes) (λ i. ltb 999 (at minutes i)) some-above in
+          inr (x .at, x .below, ltb→lt 999 (at minutes (x .at)) (x .holds))
+
+-- ---- what judge's verdict leaves of the tests
+
+module _ (kind : ℕ) (rows w minutes : List ℕ) (rate : ℕ) where
+  abbrev verdict : Verdict
+  verdict = judge (searchOf kind) (arcs rows) (length rows) w (length w)
+
+  pub judged-refused : (r : ℕ) → violation.refused r ≡ judgeAnswer kind rows w → some r ≡ firstRefusal (chargeTests kind rows w minutes rate)
+  unfolding chargeTests
+  judged-refused r e =
+      refused-before (judgeTests kind rows w) _ (sym (refuses-first (judgeTests kind rows w) r (refused-judge kind rows w r (sym e))))
+
+  pub judged-decided : {v : Verdict} → v ≡ judgeAnswer kind rows w → ((r : ℕ) → v ≡ violation.refused r → ⊥)
+      → firstRefusal (billTests (length rows) minutes rate (isPass v)) ≡ firstRefusal (chargeTests kind rows w minutes rate)
+  unfolding chargeTests
+  judged-decided {v} e decided = go (accepts-or-refuses (judgeTests kind rows w))
+    where
+      go : Accepts (judgeTests kind rows w) ⊎ ((q : ℕ) × Refuses q (judgeTests kind rows w))
+          → firstRefusal (billTests (length rows) minutes rate (isPass v)) ≡ firstRefusal (chargeTests kind rows w minutes rate)
+      go (inl a) =
+          ap (λ (x : Verdict). firstRefusal (billTests (length rows) minutes rate (isPass x))) (e ∙ judge-accepted kind rows w a)
+          ∙ tried-first (judgeTests kind rows w) (billTests (length rows) minutes rate (isPass verdict)) (sym (accepts-none (judgeTests kind rows w) a)) .same
+      go (inr x) = absurd (decided (x .0) (e ∙ judge-refused kind rows w (x .0) (x .1)))
+
+  -- ---- nothing is refused exactly where every condition holds
+
+  pub chargeable-out : Accepts (chargeTests kind rows w minutes rate) → Chargeable kind rows w minutes rate
+  unfolding chargeTests billTests
+  chargeable-out a =
+      let x = accepts-both (judgeTests kind rows w) _ a in
+      record {
+        judged = x .0;
+        listed = same-length (below-or (length minutes) (length rows)) (below-or (length rows) (length minutes)) (x .1 .0);
+        each = λ v l. within (x .1 .0) v l (below-or 999 (at minutes v));
+        rated = nltb→le 99999 rate (not-T (ltb 99999 rate) (x .1 .1 .0));
+        passing = isPass-out verdict (not-not (isPass verdict) (not-T (not (isPass verdict)) (x .1 .1 .1 .0)));
+      }
+    where
+      same-length : (length minutes < length rows) ⊎ (length rows ≤ length minutes) → (length rows < length minutes) ⊎ (length minutes ≤ length rows)
+          → (T (malformedMinutes (length rows) minutes) → ⊥) → length minutes ≡ length rows
+      same-length (inl l) b sound = absurd (sound (malformed-in (length rows) minutes (inl (λ e. omega arith))))
+      same-length (inr l) (inl h) sound = absurd (sound (malformed-in (length rows) minutes (inl (λ e. omega arith))))
+      same-length (inr l) (inr h) sound = omega arith
+
+      within : (T (malformedMinutes (length rows) minutes) → ⊥) → (v : ℕ) → v < length minutes → (999 < at minutes v) ⊎ (at minutes v ≤ 999) → at minutes v ≤ 999
+      within sound v l (inl above) = absurd (sound (malformed-in (length rows) minutes (inr (v, l, above))))
+      within sound v l (inr h) = h
+
+  pub chargeable-in : Chargeable kind rows w minutes rate → Accepts (chargeTests kind rows w minutes rate)
+  unfolding chargeTests billTests isPass
+  chargeable-in able =
+      both-accept (judgeTests kind rows w) _ (able .judged) (
+        λ t. sound (malformed-out (length rows) minutes t),
+        (λ t. let h = ltb→lt 99999 rate t in let l = able .rated in omega arith, (λ t. subst (λ (v : Verdict). T (not (isPass v))) (able .passing) t, tt)),
+      )
+    where
+      sound : (length minutes ≡ length rows → ⊥) ⊎ ((v : ℕ) × (v < length minutes) × (999 < at minutes v)) → ⊥
+      sound (inl other) = other (able .listed)
+      sound (inr x) = let l = able .each (x .0) (x .1) in let h = x .2 in omega arith
+
+  -- ---- the exact product
+
+  module _ (able : Chargeable kind rows w minutes rate) where
+    pub length-bounded : length w ≤ 64
+    length-bounded =
+        let x = accepted-ordering kind rows w (able .judged) in
+        omega (arith, valid-small kind rows (x .0), ordering-fits (length rows) (x .1))
+
+    -- an entry behind the last is 0
+    entry-bounded : (v : ℕ) → at minutes v ≤ 999
+    entry-bounded v = go (below-or v (length minutes))
+      where
+        go : (v < length minutes) ⊎ (length minutes ≤ v) → at minutes v ≤ 999
+        go (inl l) = able .each v l
+        go (inr h) = let none : at minutes v ≡ 0 = List·getD-eq-default minutes 0 h in omega arith
+
+    pub charged-minutes-bounded : minutesOf (arcs rows) w (length w) minutes ≤ largestMinutes
+    charged-minutes-bounded = omega (arith, length-bounded, minutes-bounded (arcs rows) w minutes entry-bounded (length w))
+
+    pub product-bounded : product (arcs rows) w minutes rate ≤ largestProduct
+    unfolding product
+    product-bounded = mul-le-mul charged-minutes-bounded (able .rated)
+
+  -- ---- the answer
+
+  abbrev tests : List (ℕ × Bool)
+  tests = chargeTests kind rows w minutes rate
+
+  pub charge-refused : (r : ℕ) → some r ≡ firstRefusal tests → refused r ≡ chargeAnswer kind rows w minutes rate
+  unfolding chargeAnswer
+  charge-refused r e = rw (sym e, chargeAnswer)
+
+  pub charge-accepted : none ≡ firstRefusal tests → owed (nearestCent (product (arcs rows) w minutes rate)) ≡ chargeAnswer kind rows w minutes rate
+  unfolding chargeAnswer
+  charge-accepted e = rw (sym e, chargeAnswer)
+
+  pub refused-charge : (r : ℕ) → chargeAnswer kind rows w minutes rate ≡ refused r → Refuses r tests
+  refused-charge r e = go (accepts-or-refuses tests)
+    where
+      go : Accepts tests ⊎ ((q : ℕ) × Refuses q tests) → Refuses r tests
+      go (inl a) = let clash : _≡_ {A = ℕ} 0 1 = cc (charge-accepted (sym (accepts-none tests a))) in absurd (omega arith)
+      go (inr x) =
+          let same : x .0 ≡ r = cc (charge-refused (x .0) (sym (refuses-first tests (x .0) (x .1)))) in
+          subst (λ (q : ℕ). Refuses q tests) same (x .1)
+
+  pub owed-charge : (c : ℕ) → chargeAnswer kind rows w minutes rate ≡ owed c
+      → Chargeable kind rows w minutes rate × (c ≡ nearestCent (product (arcs rows) w minutes rate))
+  owed-charge c e = go (accepts-or-refuses tests)
+    where
+      go : Accepts tests ⊎ ((q : ℕ) × Refuses q tests) → Chargeable kind rows w minutes rate × (c ≡ nearestCent (product (arcs rows) w minutes rate))
+      go (inl a) = (chargeable-out a, cc (charge-accepted (sym (accepts-none tests a))))
+      go (inr x) = let clash : _≡_ {A = ℕ} 0 1 = cc (charge-refused (x .0) (sym (refuses-first tests (x .0) (x .1)))) in absurd (omega arith)
+
+  -- ---- what 20's test means
+
+  pub unpassed-fails : Accepts (judgeTests kind rows w) → T (not (isPass verdict)) → Fails (judgeAnswer kind rows w)
+  unfolding isPass
+  unpassed-fails a t = go (judgeAnswer kind rows w) refl (subst (λ (v : Verdict). T (not (isPass v))) (sym (judge-accepted kind rows w a)) t)
+    where
+      go : (v : Verdict) → judgeAnswer kind rows w ≡ v → T (not (isPass v)) → Fails (judgeAnswer kind rows w)
+      go passes e t = absurd t
+      go (fails a b c) e t = (a, b, c, e)
+      go (violation.refused r) e t =
+          let clash : _≡_ {A = ℕ} 0 1 = cc (accepts-none (judgeTests kind rows w) a, refuses-first (judgeTests kind rows w) r (refused-judge kind rows w r e)) in
+          absurd (omega arith)
+
+  pub fails-unpassed : Accepts (judgeTests kind rows w) → Fails (judgeAnswer kind rows w) → T (not (isPass verdict))
+  unfolding isPass
+  fails-unpassed a x = subst (λ (v : Verdict). T (not (isPass v))) (sym (x .3) ∙ judge-accepted kind rows w a) tt

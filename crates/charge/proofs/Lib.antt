@@ -1,0 +1,4 @@
+pub mod Rounding
+pub mod Adding
+pub mod Charging
+pub mod Billing

@@ -1,0 +1,134 @@
+-- Rounding x / d, for every divisor d above 0 and every rule for halves.
+--   near-nearest         a multiple of d that is at most half of d away from x is a nearest one
+--   quotient-near        the quotient after half of d is added is one
+--   rounds-near          whatever the rule, what is rounded is at most half of d away                 [02: never more than 30 away]
+--   rounded-rounds       the formula rounds
+--   rounds-alone         and only one number does
+--   halves-up-largest    with halves up it is the largest that is at most half of d away
+-- Assumes nothing.
+use mathlib.Core.Path.{_≡_, refl, sym, ap, _∙_, subst}
+use mathlib.Core.Logic.{_⊎_, inl, inr}
+use mathlib.Core.Bool.{Bool, true, false, cond, not, _&&_}
+use Prim.Native.Nat.{ℕ, suc, _+_, _-_, _*_, _/_, _%_, _≤_, _<_}
+use native.Mathlib.Nat.{mul-zero, mul-suc, mul-le-mul-left, div-add-mod, mod-lt}
+use native.Mathlib.Omega.{arith}
+use lib.Dec.{T, eqb, eqb→eq, eqb-refl, not-T, T-not}
+use Rattle.bitset.proofs.Tests.{and-in, and-out, not-not, below-or, three-ways}
+use Rattle.charge.specs.Rounding.{distance, Rule, halvesUp, Rounds, rounded}
+
+module _ (d : ℕ) (positive : 0 < d) (x : ℕ) where
+  -- two multiples of d are d apart, or more
+  apart : (p q : ℕ) → p < q → d * p + d ≤ d * q
+  apart p q l = omega (arith, mul-suc d p, mul-le-mul-left d l)
+
+  -- ---- nearest is at most half of d away
+
+  pub near-nearest : (q : ℕ) → distance (d * q) x ≤ d / 2 → (p : ℕ) → distance (d * q) x ≤ distance (d * p) x
+  unfolding distance
+  near-nearest q near p = go (three-ways p q)
+    where
+      go : (p < q) ⊎ ((p ≡ q) ⊎ (q < p)) → (d * q - x) + (x - d * q) ≤ (d * p - x) + (x - d * p)
+      go (inl l) = omega (arith, apart p q l)
+      go (inr (inl e)) = let same : d * p ≡ d * q = ap (λ (i : ℕ). d * i) e in omega arith
+      go (inr (inr l)) = omega (arith, apart q p l)
+
+  -- the whole number of d in x and half of d
+  pub quotient : ℕ
+  quotient = (x + d / 2) / d
+
+  quotient-low : d * quotient ≤ x + d / 2
+  unfolding quotient
+  quotient-low = omega (arith, div-add-mod (x + d / 2) d)
+
+  quotient-high : x + d / 2 < d * quotient + d
+  unfolding quotient
+  quotient-high = omega (arith, div-add-mod (x + d / 2) d, mod-lt (x + d / 2) positive)
+
+  pub quotient-near : distance (d * quotient) x ≤ d / 2
+  unfolding distance
+  quotient-near = omega (arith, quotient-low, quotient-high)
+
+  pub rounds-near : (rule : Rule) (q : ℕ) → Rounds rule d x q → distance (d * q) x ≤ d / 2
+  rounds-near rule q r = omega (arith, quotient-near, r .nearest quotient)
+
+  -- ---- the formula rounds
+
+  module _ (rule : Rule) where
+    -- a half that the rule does not take up
+    half-down : (m : ℕ) → 2 * x + d ≡ 2 * (d * suc m) → (T (rule m) → ⊥) → Rounds rule d x m
+    unfolding distance
+    half-down m half not-up = record {
+      nearest = near-nearest m (omega (arith, mul-suc d m));
+      up = λ p e same.
+          let previous : d * m ≡ d * p + d = ap (λ (i : ℕ). d * i) (sym e) ∙ mul-suc d p in
+          absurd (omega (arith, mul-suc d m));
+      down = λ same t. not-up t;
+    }
+
+    -- no half, or one that the rule takes up
+    taken-up : (q : ℕ) → d * q ≤ x + d / 2 → x + d / 2 < d * q + d → ((m : ℕ) → suc m ≡ q → 2 * x + d ≡ 2 * (d * q) → T (rule m)) → Rounds rule d x q
+    unfolding distance
+    taken-up q low high half-up = record {
+      nearest = near-nearest q (omega arith);
+      up = λ p e same.
+          let previous : d * q ≡ d * p + d = ap (λ (i : ℕ). d * i) (sym e) ∙ mul-suc d p in
+          half-up p e (omega arith);
+      down = λ same t. absurd (omega (arith, mul-suc d q));
+    }
+
+    chosen : (q : ℕ) → d * q ≤ x + d / 2 → x + d / 2 < d * q + d → (b : Bool) → b ≡ (not (rule (q - 1)) && eqb (2 * x + d) (2 * (d * q)))
+        → Rounds rule d x (cond b (q - 1) q)
+    chosen q low high true e =
+        let both = and-out (not (rule (q - 1))) (eqb (2 * x + d) (2 * (d * q))) (subst (λ (b : Bool). T b) e tt) in
+        let half : 2 * x + d ≡ 2 * (d * q) = eqb→eq (2 * x + d) (2 * (d * q)) (both .1) in
+        let next : suc (q - 1) ≡ q = go (below-or 0 q) half in
+        half-down (q - 1) (half ∙ ap (λ (i : ℕ). 2 * (d * i)) (sym next)) (T-not (rule (q - 1)) (both .0))
+      where
+        go : (0 < q) ⊎ (q ≤ 0) → 2 * x + d ≡ 2 * (d * q) → suc (q - 1) ≡ q
+        go (inl l) half = omega arith
+        go (inr l) half = let none : q ≡ 0 = omega arith in absurd (omega (arith, mul-zero d, ap (λ (i : ℕ). d * i) none))
+    chosen q low high false e =
+        taken-up q low high
+        (λ m s half.
+        let last : q - 1 ≡ m = omega arith in
+        subst (λ (i : ℕ). T (rule i)) last
+        (not-not (rule (q - 1)) (not-T (not (rule (q - 1)))
+        (λ t. subst (λ (b : Bool). T b) (sym e) (and-in (not (rule (q - 1))) (eqb (2 * x + d) (2 * (d * q))) t (subst (λ (i : ℕ). T (eqb (2 * x + d) i)) half (eqb-refl (2 * x + d))))))))
+
+    pub rounded-rounds : Rounds rule d x (rounded rule d x)
+    unfolding rounded quotient
+    rounded-rounds = chosen quotient quotient-low quotient-high _ refl
+
+    -- ---- only one number does
+
+    -- two different multiples of d that are both at most half of d away are next to each other, and equally near
+    both-near : (p q : ℕ) → p < q → distance (d * p) x ≤ d / 2 → distance (d * q) x ≤ d / 2 → (suc p ≡ q) × (distance (d * p) x ≡ distance (d * q) x)
+    unfolding distance
+    both-near p q l near near′ = (go (below-or (suc p) q), omega (arith, apart p q l))
+      where
+        go : (suc p < q) ⊎ (q ≤ suc p) → suc p ≡ q
+        go (inl h) = absurd (omega (arith, mul-suc d p, apart (suc p) q h))
+        go (inr h) = omega arith
+
+    never-both : (p q : ℕ) → p < q → Rounds rule d x p → Rounds rule d x q → ⊥
+    never-both p q l of-p of-q =
+        let next = both-near p q l (rounds-near rule p of-p) (rounds-near rule q of-q) in
+        of-p .down (ap (λ (i : ℕ). distance (d * i) x) (next .0) ∙ sym (next .1)) (of-q .up p (next .0) (next .1))
+
+    pub rounds-alone : (p q : ℕ) → Rounds rule d x p → Rounds rule d x q → p ≡ q
+    rounds-alone p q of-p of-q = go (three-ways p q)
+      where
+        go : (p < q) ⊎ ((p ≡ q) ⊎ (q < p)) → p ≡ q
+        go (inl l) = absurd (never-both p q l of-p of-q)
+        go (inr (inl e)) = e
+        go (inr (inr l)) = absurd (never-both q p l of-q of-p)
+
+  pub halves-up-largest : (q : ℕ) → Rounds halvesUp d x q → (p : ℕ) → distance (d * p) x ≤ d / 2 → p ≤ q
+  unfolding halvesUp
+  halves-up-largest q of-q p near = go (below-or q p)
+    where
+      go : (q < p) ⊎ (p ≤ q) → p ≤ q
+      go (inl l) =
+          let next = both-near halvesUp q p l (rounds-near halvesUp q of-q) near in
+          absurd (of-q .down (ap (λ (i : ℕ). distance (d * i) x) (next .0) ∙ sym (next .1)) tt)
+      go (inr h) = h

@@ -1,0 +1,69 @@
+-- `charge::charge_refusal` meets its contract: judge's refusal, or after its verdict the first of the tests behind it.
+-- Assumes nothing.
+use mathlib.Core.Path.{_≡_, sym, ap, _∙_}
+use Prim.Native.Nat.{ℕ}
+use native.Mathlib.Omega.{arith}
+use denote.Ref.{now}
+use borrow.Author.Needs.{needs}
+use Rattle.searches.specs.Violation.{Verdict, passes, fails, refused}
+use Rattle.searches.specs.Answer.{isPass, refusalOf, verdictOf}
+use Rattle.charge.proofs.Charging.{judged-refused, judged-decided}
+use Rattle.charge.proofs.charge_refusal.Statement.{statement}
+use Rattle.charge.proofs.charge_refusal.Tie as tie
+
+judge-requires : tie.Need-judge-requires
+judge-requires c κs = search needs
+
+enum-told : tie.Need-enum-told
+enum-told c = search needs
+
+bill-refusal-requires : tie.Need-bill-refusal-requires
+bill-refusal-requires c κs = search needs
+
+enum-told-2 : tie.Need-enum-told-2
+enum-told-2 c = search needs
+
+bill-refusal-requires-2 : tie.Need-bill-refusal-requires-2
+bill-refusal-requires-2 c κs = search needs
+
+enum-known-judged : tie.Need-enum-known-judged
+enum-known-judged c = search needs
+
+returns : tie.Need-returns
+unfolding verdictOf isPass
+returns c =
+    let a = c .before .before .before .before .before .before .before .args in
+    c .bill-refusal .ensures
+    ∙ judged-decided (a .kind .0) (now (a .rows)) (now (a .ordering)) (now (a .minutes)) (a .rate) {v = passes}
+    (sym (ap verdictOf (c .before .enum-told .given .1)) ∙ c .before .before .before .judge .ensures)
+    (λ r e. let clash : _≡_ {A = ℕ} 0 1 = cc in omega arith)
+
+returns-2 : tie.Need-returns-2
+unfolding verdictOf isPass
+returns-2 c =
+    let a = c .before .before .before .before .before .before .before .args in
+    c .bill-refusal2 .ensures
+    ∙ judged-decided (a .kind .0) (now (a .rows)) (now (a .ordering)) (now (a .minutes)) (a .rate) {v = fails _ _ _}
+    (sym (ap verdictOf (c .before .enum-told2 .given .1)) ∙ c .before .before .before .judge .ensures)
+    (λ r e. let clash : _≡_ {A = ℕ} 0 1 = cc in omega arith)
+
+returns-3 : tie.Need-returns-3
+unfolding verdictOf refusalOf
+returns-3 c =
+    let a = c .before .before .before .before .before .before .before .args in
+    judged-refused (a .kind .0) (now (a .rows)) (now (a .ordering)) (now (a .minutes)) (a .rate) _
+    (sym (ap verdictOf (c .before .judged .given .1)) ∙ c .before .before .before .judge .ensures)
+
+pub charge-refusal-spec : {M : Type 1} → statement M
+charge-refusal-spec =
+    tie.close
+    (tie.spec
+    judge-requires
+    enum-told
+    bill-refusal-requires
+    enum-told-2
+    bill-refusal-requires-2
+    enum-known-judged
+    returns
+    returns-2
+    returns-3)

@@ -1,0 +1,66 @@
+-- `charge::jump_minutes` meets its contract: none for the first position, and for a later one unless it is led to.
+-- Assumes nothing.
+use mathlib.Core.Path.{_≡_, sym, ap, _∙_}
+use mathlib.Core.Bool.{Bool, cond, not}
+use denote.Ref.{now}
+use borrow.Author.Needs.{needs}
+use borrow.Author.Tests.{eq-eqb, ne-eqb}
+use Prim.Native.Nat.{ℕ, _-_}
+use lib.ListN.{getD}
+use Rattle.bitset.specs.Word.{member}
+use Rattle.searches.specs.Ordering.{arcs, at}
+use Rattle.charge.proofs.Adding.{first-none, later-unless-led}
+use Rattle.charge.proofs.jump_minutes.Statement.{statement}
+use Rattle.charge.proofs.jump_minutes.Tie as tie
+
+-- the bit that is looked at is the arc from the vertex before
+led : (c : tie.After-contains)
+    → let a = c .before .before .before .before .before .before .before .before .args in
+    c .contains .result ≡ arcs (now (a .rows)) (at (now (a .ordering)) (a .position .0 - 1)) (at (now (a .ordering)) (a .position .0))
+unfolding arcs
+led c = cc
+
+returns : tie.Need-returns
+returns c = let a = c .before .before .before .args in sym (first-none (arcs (now (a .rows))) (now (a .ordering)) (a .position .0) (eq-eqb _ _ (c .if1 .taken)))
+
+sub-contains : tie.Need-sub-contains
+sub-contains c = search needs
+
+vertex-at-requires : tie.Need-vertex-at-requires
+vertex-at-requires c κs = search needs
+
+vertex-at-requires-2 : tie.Need-vertex-at-requires-2
+vertex-at-requires-2 c κs = search needs
+
+row-of-requires : tie.Need-row-of-requires
+row-of-requires c κs = search needs
+
+cast-contains : tie.Need-cast-contains
+cast-contains c = search needs
+
+contains-requires : tie.Need-contains-requires
+contains-requires c κs = search needs
+
+returns-2 : tie.Need-returns-2
+returns-2 c =
+    let a = c .before .before .before .before .before .before .before .before .before .args in
+    sym (later-unless-led (arcs (now (a .rows))) (now (a .ordering)) (a .position .0) (ne-eqb _ _ (c .before .before .before .before .before .before .if1 .left)) (sym (c .if2 .taken) ∙ led (c .before)))
+
+returns-3 : tie.Need-returns-3
+returns-3 c =
+    let a = c .before .before .before .before .before .before .before .before .before .args in
+    sym (later-unless-led (arcs (now (a .rows))) (now (a .ordering)) (a .position .0) (ne-eqb _ _ (c .before .before .before .before .before .before .if1 .left)) (sym (c .if2 .left) ∙ led (c .before)))
+
+pub jump-minutes-spec : {M : Type 1} → statement M
+jump-minutes-spec =
+    tie.close
+    (tie.spec
+    returns
+    sub-contains
+    vertex-at-requires
+    vertex-at-requires-2
+    row-of-requires
+    cast-contains
+    contains-requires
+    returns-2
+    returns-3)

@@ -1,0 +1,75 @@
+-- The charge for an ordering: refusals first.
+--   product arc w minutes rate              the minutes of w times the rate in cents an hour: the exact charge, in sixtieths of a cent
+--   nearestCent x                           x sixtieths of a cent, rounded to the nearest cent, halves up               [02: K2]
+--   largestMinutes, largestProduct          64 points of 999 minutes with a jump to all but the first; at the largest rate
+--   malformedMinutes n minutes              the list has not n entries, or one above 999
+--   billTests n minutes rate passing        what is refused after judge's tests: numbers and tests in 02's order
+--   chargeTests kind rows w minutes rate    all tests: judge's, then these
+--   Chargeable kind rows w minutes rate     what is not refused, condition by condition
+--   Bill                                    owed c: so many cents; refused r: the refusal with number r
+--   chargeAnswer kind rows w minutes rate   what is answered                                                           [02: K2]
+--   billOf                                  an answer of the code as 02's number and values
+use Prim.Native.Nat.{ℕ, _+_, _*_, _/_, _≤_, _<_}
+use mathlib.Core.Path.{_≡_}
+use mathlib.Core.Bool.{Bool, not, _||_}
+use mathlib.Core.List.{List, [], _∷_, _++_}
+use mathlib.Core.Option.{none, some}
+use lib.Dec.{ltb, eqb}
+use lib.ListN.{length}
+use Rattle.bitset.specs.Below.{anyBelow}
+use Rattle.searches.specs.Kind.{searchOf}
+use Rattle.searches.specs.Ordering.{arcs, at}
+use Rattle.searches.specs.Violation.{passes, judge}
+use Rattle.searches.specs.Answer.{isPass, judgeTests, firstRefusal, Accepts, number}
+use Rattle.charge.specs.Minutes.{minutesOf}
+use Rattle.charge.specs.declared.Charged.{Charged}
+
+unfoldable pub product : (ℕ → ℕ → Bool) → List ℕ → List ℕ → ℕ → ℕ
+product arc w minutes rate = minutesOf arc w (length w) minutes * rate
+
+unfoldable pub nearestCent : ℕ → ℕ
+nearestCent x = (x + 30) / 60
+
+abbrev pub largestMinutes : ℕ
+largestMinutes = 64 * 999 + 63 * 7
+
+abbrev pub largestProduct : ℕ
+largestProduct = largestMinutes * 99999
+
+-- the whole list is looked at, placed or not
+unfoldable pub malformedMinutes : ℕ → List ℕ → Bool
+malformedMinutes n minutes = not (eqb (length minutes) n) || anyBelow (length minutes) (λ v. ltb 999 (at minutes v))
+
+unfoldable pub billTests : ℕ → List ℕ → ℕ → Bool → List (ℕ × Bool)
+billTests n minutes rate passing =
+    (18, malformedMinutes n minutes)
+    ∷ (19, ltb 99999 rate)
+    ∷ (20, not passing)
+    ∷ []
+
+unfoldable pub chargeTests : ℕ → List ℕ → List ℕ → List ℕ → ℕ → List (ℕ × Bool)
+chargeTests kind rows w minutes rate =
+    judgeTests kind rows w
+    ++ billTests (length rows) minutes rate (isPass (judge (searchOf kind) (arcs rows) (length rows) w (length w)))
+
+pub record Chargeable (kind : ℕ) (rows w minutes : List ℕ) (rate : ℕ) : Type 0 where
+  pub judged : Accepts (judgeTests kind rows w)
+  pub listed : length minutes ≡ length rows
+  pub each : (v : ℕ) → v < length minutes → at minutes v ≤ 999
+  pub rated : rate ≤ 99999
+  pub passing : judge (searchOf kind) (arcs rows) (length rows) w (length w) ≡ passes
+
+pub data Bill : Type 0 where
+  owed : ℕ → Bill
+  refused : ℕ → Bill
+
+unfoldable pub chargeAnswer : ℕ → List ℕ → List ℕ → List ℕ → ℕ → Bill
+chargeAnswer kind rows w minutes rate =
+    elim (firstRefusal (chargeTests kind rows w minutes rate)) [
+      | none ↦ owed (nearestCent (product (arcs rows) w minutes rate))
+      | some r ↦ refused r
+    ]
+
+unfoldable pub billOf : Charged → Bill
+billOf (Charged.Cents cents) = owed cents
+billOf (Charged.Refused r) = refused (number r)

@@ -1,0 +1,23 @@
+-- The minutes of an ordering.
+--   sumBelow n f                 f at the numbers below n, added up
+--   jump arc w p                 position p is not the first, and the vertex placed directly before does not lead to the one at p
+--   jumpMinutes arc w p          7 for a jump, else 0
+--   minutesOf arc w k minutes    of the vertices at the first k positions the minutes, and 7 more for each jump to one      [02: K2, minutes]
+use Prim.Native.Nat.{ℕ, zero, suc, _+_, _-_}
+use mathlib.Core.Bool.{Bool, cond, not, _&&_}
+use mathlib.Core.List.{List}
+use lib.Dec.{eqb}
+use Rattle.searches.specs.Ordering.{at}
+
+unfoldable pub sumBelow : ℕ → (ℕ → ℕ) → ℕ
+sumBelow zero f = zero
+sumBelow (suc n) f = let rest = sumBelow n f in rest + f n
+
+unfoldable pub jump : (ℕ → ℕ → Bool) → List ℕ → ℕ → Bool
+jump arc w p = not (eqb p 0) && not (arc (at w (p - 1)) (at w p))
+
+unfoldable pub jumpMinutes : (ℕ → ℕ → Bool) → List ℕ → ℕ → ℕ
+jumpMinutes arc w p = cond (jump arc w p) 7 0
+
+unfoldable pub minutesOf : (ℕ → ℕ → Bool) → List ℕ → ℕ → List ℕ → ℕ
+minutesOf arc w k minutes = sumBelow k (λ p. at minutes (at w p) + jumpMinutes arc w p)

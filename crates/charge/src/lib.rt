@@ -1,0 +1,137 @@
+// The charge for an ordering: its minutes at an hourly rate, to the nearest cent. On lists that the caller owns, for every kind, plan, list and
+// rate there can be. No function here alters a list.
+use searches::Judgement;
+use searches::Kind;
+use searches::Outcome;
+use searches::Position;
+use searches::Refusal;
+use steps::lookup::row_of;
+use steps::lookup::vertex_at;
+ghost use mathlib.Core.Path.{_≡_};
+ghost use Prim.Native.Nat.{_≤_, _<_};
+ghost use lib.ListN.{length};
+ghost use Rattle.searches.specs.Ordering.{arcs, at};
+ghost use Rattle.searches.specs.Answer.{firstRefusal, refusalOf};
+ghost use Rattle.charge.specs.Minutes.{jumpMinutes, minutesOf};
+ghost use Rattle.charge.specs.Charge.{nearestCent, largestProduct, malformedMinutes, billTests, chargeTests, chargeAnswer, billOf};
+
+// What charging for an ordering answers.
+pub enum Charged {
+    Cents(u64),
+    Refused(Refusal),
+}
+
+// The charge for an ordering that passes the search `kind`, in cents: its minutes, of each vertex by `minutes` and 7 more for each vertex but the
+// first to which the one placed directly before it does not lead, at `rate` cents an hour, to the nearest cent, halves up. Or it is refused (1 to 6,
+// 8, 9, 18, 19, 20). Alters nothing.
+pub fn charge(kind: Kind, rows: &[u64], ordering: &[u8], minutes: &[u16], rate: u64) -> Charged
+    ensures { λ r. ⌜ billOf r ≡ chargeAnswer (kind .0) (now (rows .entry)) (now (ordering .entry)) (now (minutes .entry)) rate ⌝ }
+{
+    let checked = charge_refusal(kind, rows, ordering, minutes, rate);
+    if let Outcome::Refused(refusal) = checked {
+        return Charged::Refused(refusal);
+    }
+    let spent = minutes_of(rows, ordering, minutes);
+    Charged::Cents(nearest_cent(spent * rate))
+}
+
+// The first of refusals 1 to 6, 8, 9, 18, 19 and 20 that applies, else `Done`.
+fn charge_refusal(kind: Kind, rows: &[u64], ordering: &[u8], minutes: &[u16], rate: u64) -> Outcome
+    ensures { λ r. ⌜ refusalOf r ≡ firstRefusal (chargeTests (kind .0) (now (rows .entry)) (now (ordering .entry)) (now (minutes .entry)) rate) ⌝ }
+{
+    let n = rows.len();
+    let judged = engine::judge(kind, rows, ordering);
+    match judged {
+        Judgement::Passes => bill_refusal(n, minutes, rate, true),
+        Judgement::Fails(_) => bill_refusal(n, minutes, rate, false),
+        Judgement::Refused(refusal) => Outcome::Refused(refusal),
+    }
+}
+
+// The first of refusals 18, 19 and 20 that applies where an ordering of `n` vertices is not refused and is `passing` or not, else `Done`.
+fn bill_refusal(n: usize, minutes: &[u16], rate: u64, passing: bool) -> Outcome
+    ensures { λ r. ⌜ refusalOf r ≡ firstRefusal (billTests n (now (minutes .entry)) rate passing) ⌝ }
+{
+    let malformed = malformed_minutes(n, minutes);
+    let above = 99999 < rate;
+    if malformed {
+        return Outcome::Refused(Refusal::MalformedMinutes);
+    }
+    if above {
+        return Outcome::Refused(Refusal::RateTooHigh);
+    }
+    if !passing {
+        return Outcome::Refused(Refusal::OrderingFails);
+    }
+    Outcome::Done
+}
+
+// Whether the list has not `n` entries, or one above 999.
+fn malformed_minutes(n: usize, minutes: &[u16]) -> bool
+    ensures { λ r. ⌜ r ≡ malformedMinutes n (now (minutes .entry)) ⌝ }
+{
+    let length = minutes.len();
+    if length != n {
+        return true;
+    }
+    for v in 0..length {
+        if 999 < minutes[v] {
+            return true;
+        }
+    }
+    false
+}
+
+// The minutes of an ordering.
+fn minutes_of(rows: &[u64], ordering: &[u8], minutes: &[u16]) -> u64
+    requires { ⌜ length (now ordering) ≤ 64 ⌝ }
+    ensures { λ r. ⌜ r ≡ minutesOf (arcs (now (rows .entry))) (now (ordering .entry)) (length (now (ordering .entry))) (now (minutes .entry)) ⌝ }
+{
+    let mut total = 0u64;
+    for p in 0..ordering.len() {
+        let vertex = vertex_at(ordering, Position(p));
+        let v = vertex.0 as usize;
+        let own = minutes_at(minutes, v);
+        let jump = jump_minutes(rows, ordering, Position(p));
+        total = total + own + jump;
+    }
+    total
+}
+
+// The minutes of vertex `v`; 0 behind the last entry.
+fn minutes_at(minutes: &[u16], v: usize) -> u64
+    ensures entry { λ r. ⌜ r ≡ at (now (minutes .entry)) v ⌝ }
+    ensures width { λ r. ⌜ r < 65536 ⌝ }
+{
+    if v < minutes.len() {
+        minutes[v] as u64
+    } else {
+        0
+    }
+}
+
+// 7 for a position that is not the first, where the vertex placed directly before does not lead to the one there; else 0.
+fn jump_minutes(rows: &[u64], ordering: &[u8], position: Position) -> u64
+    requires { ⌜ position .0 < length (now ordering) ⌝ }
+    ensures { λ r. ⌜ r ≡ jumpMinutes (arcs (now (rows .entry))) (now (ordering .entry)) (position .0) ⌝ }
+{
+    let p = position.0;
+    if p == 0 {
+        return 0;
+    }
+    let before = vertex_at(ordering, Position(p - 1));
+    let vertex = vertex_at(ordering, position);
+    if bitset::contains(row_of(rows, before), vertex.0 as usize) {
+        0
+    } else {
+        7
+    }
+}
+
+// So many sixtieths of a cent, rounded to the nearest cent, halves up.
+fn nearest_cent(product: u64) -> u64
+    requires { ⌜ product ≤ largestProduct ⌝ }
+    ensures { λ r. ⌜ r ≡ nearestCent product ⌝ }
+{
+    (product + 30) / 60
+}
