@@ -10,6 +10,7 @@
 //!   judge, carry_on             the two calls, as the firmware sees them           [01: the calls]
 //!   open_walk                   the open walk, and its four calls
 //!   sheet                       the sheet: written, read and judged
+//!   charge                      what a walk is charged                             [02: K2]
 
 /// A point's number.
 pub type Vertex = usize;
@@ -54,6 +55,11 @@ impl Graph {
     fn vertices(&self) -> std::ops::Range<Vertex> {
         0..self.size()
     }
+}
+
+/// A plan as the bytes that the calls take.
+fn bytes(rows: &[u64]) -> Vec<u8> {
+    rows.iter().flat_map(|row| row.to_le_bytes()).collect()
 }
 
 // ---- Which point may be next ----
@@ -222,6 +228,7 @@ pub fn carry_on(
     (0, after)
 }
 
+pub mod charge;
 pub mod open_walk;
 pub mod sheet;
 mod violation;

@@ -8,7 +8,7 @@
 -- Assumes nothing.
 use mathlib.Core.Path.{_≡_, refl, sym, ap, _∙_, subst}
 use mathlib.Core.Logic.{_⊎_, inl, inr}
-use mathlib.Core.Bool.{Bool, true, false, not, _||_}
+use mathlib.Core.Bool.{Bool, not}
 use mathlib.Core.List.{List}
 use mathlib.Core.Option.{none, some}
 use Prim.Native.Nat.{ℕ, _≤_, _<_}
@@ -20,10 +20,10 @@ use Rattle.bitset.specs.Below.{anyBelow}
 use Rattle.bitset.proofs.Tests.{or-inl, or-inr, or-out, not-not, below-or}
 use Rattle.bitset.proofs.Below.{any-out, any-at}
 use Rattle.searches.specs.Kind.{searchOf}
-use Rattle.searches.specs.Ordering.{arcs, at, IsOrdering}
+use Rattle.searches.specs.Ordering.{arcs, at}
 use Rattle.searches.specs.Violation.{Verdict, passes, fails, Fails, judge}
 use Rattle.searches.specs.Violation as violation
-use Rattle.searches.specs.Answer.{isPass, openTests, judgeTests, firstRefusal, Accepts, Refuses, judgeAnswer}
+use Rattle.searches.specs.Answer.{isPass, judgeTests, firstRefusal, Accepts, Refuses, judgeAnswer}
 use Rattle.searches.proofs.Ordering.{ordering-fits}
 use Rattle.searches.proofs.Refusals.{refuses-first, accepts-none, accepts-or-refuses}
 use Rattle.searches.proofs.Answers.{accepts-both, both-accept, valid-small, isPass-out, accepted-ordering, judge-accepted, judge-refused, refused-judge}

@@ -21,9 +21,9 @@ pub enum Charged {
     Refused(Refusal),
 }
 
-// The charge for an ordering that passes the search `kind`, in cents: its minutes, of each vertex by `minutes` and 7 more for each vertex but the
-// first to which the one placed directly before it does not lead, at `rate` cents an hour, to the nearest cent, halves up. Or it is refused (1 to 6,
-// 8, 9, 18, 19, 20). Alters nothing.
+// The charge, in cents, for an ordering that passes the search `kind`. The minutes of its vertices are those in `minutes`, entry v for vertex v, and
+// 7 more for each vertex after the first to which the one placed directly before it does not lead. Minutes times `rate`, in cents an hour, divided by
+// 60, is rounded to the nearest cent, halves up. Any other ordering, list or rate is refused (1 to 6, 8, 9, 18, 19, 20). Alters nothing.
 pub fn charge(kind: Kind, rows: &[u64], ordering: &[u8], minutes: &[u16], rate: u64) -> Charged
     ensures { λ r. ⌜ billOf r ≡ chargeAnswer (kind .0) (now (rows .entry)) (now (ordering .entry)) (now (minutes .entry)) rate ⌝ }
 {
@@ -48,7 +48,7 @@ fn charge_refusal(kind: Kind, rows: &[u64], ordering: &[u8], minutes: &[u16], ra
     }
 }
 
-// The first of refusals 18, 19 and 20 that applies where an ordering of `n` vertices is not refused and is `passing` or not, else `Done`.
+// The first of refusals 18, 19 and 20 that applies to an ordering of a graph of `n` vertices that judge did not refuse, else `Done`.
 fn bill_refusal(n: usize, minutes: &[u16], rate: u64, passing: bool) -> Outcome
     ensures { λ r. ⌜ refusalOf r ≡ firstRefusal (billTests n (now (minutes .entry)) rate passing) ⌝ }
 {
@@ -82,7 +82,7 @@ fn malformed_minutes(n: usize, minutes: &[u16]) -> bool
     false
 }
 
-// The minutes of an ordering.
+// The minutes of an ordering: of each vertex its own, and 7 for each jump.
 fn minutes_of(rows: &[u64], ordering: &[u8], minutes: &[u16]) -> u64
     requires { ⌜ length (now ordering) ≤ 64 ⌝ }
     ensures { λ r. ⌜ r ≡ minutesOf (arcs (now (rows .entry))) (now (ordering .entry)) (length (now (ordering .entry))) (now (minutes .entry)) ⌝ }
@@ -128,7 +128,7 @@ fn jump_minutes(rows: &[u64], ordering: &[u8], position: Position) -> u64
     }
 }
 
-// So many sixtieths of a cent, rounded to the nearest cent, halves up.
+// The exact product, in sixtieths of a cent, rounded to the nearest cent, halves up. The largest product takes 33 bits.
 fn nearest_cent(product: u64) -> u64
     requires { ⌜ product ≤ largestProduct ⌝ }
     ensures { λ r. ⌜ r ≡ nearestCent product ⌝ }

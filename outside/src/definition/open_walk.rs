@@ -1,6 +1,6 @@
 //! The open walk of 01, by trying everything: a state that anyone may fill in, and its four calls.
 
-use super::{first_of, judge, offered, plan_refusal, Graph, Kind, Vertex};
+use super::{bytes, first_of, judge, offered, plan_refusal, Graph, Kind, Vertex};
 
 #[derive(Clone, PartialEq, Eq, Debug)]
 pub struct OpenWalk {
@@ -13,10 +13,6 @@ pub struct OpenWalk {
 
 /// A refusal's number, or 0.
 pub type Answer = u32;
-
-fn bytes(rows: &[u64]) -> Vec<u8> {
-    rows.iter().flat_map(|row| row.to_le_bytes()).collect()
-}
 
 impl OpenWalk {
     /// Of kind 0, with n = 0 and everything else 0.

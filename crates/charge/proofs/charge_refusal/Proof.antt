@@ -5,7 +5,7 @@ use Prim.Native.Nat.{ℕ}
 use native.Mathlib.Omega.{arith}
 use denote.Ref.{now}
 use borrow.Author.Needs.{needs}
-use Rattle.searches.specs.Violation.{Verdict, passes, fails, refused}
+use Rattle.searches.specs.Violation.{passes, fails}
 use Rattle.searches.specs.Answer.{isPass, refusalOf, verdictOf}
 use Rattle.charge.proofs.Charging.{judged-refused, judged-decided}
 use Rattle.charge.proofs.charge_refusal.Statement.{statement}

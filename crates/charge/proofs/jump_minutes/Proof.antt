@@ -1,13 +1,10 @@
 -- `charge::jump_minutes` meets its contract: none for the first position, and for a later one unless it is led to.
 -- Assumes nothing.
-use mathlib.Core.Path.{_≡_, sym, ap, _∙_}
-use mathlib.Core.Bool.{Bool, cond, not}
+use mathlib.Core.Path.{_≡_, sym, _∙_}
 use denote.Ref.{now}
 use borrow.Author.Needs.{needs}
 use borrow.Author.Tests.{eq-eqb, ne-eqb}
-use Prim.Native.Nat.{ℕ, _-_}
-use lib.ListN.{getD}
-use Rattle.bitset.specs.Word.{member}
+use Prim.Native.Nat.{_-_}
 use Rattle.searches.specs.Ordering.{arcs, at}
 use Rattle.charge.proofs.Adding.{first-none, later-unless-led}
 use Rattle.charge.proofs.jump_minutes.Statement.{statement}

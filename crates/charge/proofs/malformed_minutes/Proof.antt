@@ -6,7 +6,7 @@ use mathlib.Core.Logic.{_⊎_, inl, inr}
 use denote.Ref.{now}
 use native.Mathlib.Omega.{arith}
 use borrow.Author.Tests.{le-ltb}
-use lib.Dec.{T, ltb, lt→ltb}
+use lib.Dec.{ltb, lt→ltb}
 use lib.ListN.{length}
 use Rattle.bitset.proofs.Tests.{is-true, is-false}
 use Rattle.bitset.proofs.Passed.{Passed, passed-start, passed-more}

@@ -7,12 +7,15 @@
 //!   e   the open walks that a program of the library plays
 //!   f   the sheets that a program of the library judges
 //!   g   which passes carry over from one kind to another
+//!   h   the walks that a program of the library charges
 
 mod carry_over;
+mod charged_walks;
 mod comparison;
 mod document;
 mod examples;
 mod open_walks;
+mod printed;
 mod random_calls;
 mod sheets;
 mod small_plans;
@@ -24,6 +27,7 @@ fn main() {
         + random_calls::compare()
         + open_walks::compare()
         + sheets::compare()
-        + carry_over::compare();
+        + carry_over::compare()
+        + charged_walks::compare();
     println!("all {calls} calls agree");
 }

@@ -1,13 +1,11 @@
 //! Group e: what the program of the crate `open_walks` prints, line by line. The list of calls is the program's.
 
 use std::fmt::Write;
-use std::fs;
-use std::process::exit;
 
 use outside::definition::open_walk::OpenWalk;
 use outside::definition::KINDS;
 
-const PRINTED: &str = concat!(env!("CARGO_MANIFEST_DIR"), "/../crates/open_walks/stdout");
+use crate::printed::Lines;
 
 const RING: [u64; 4] = [10, 5, 10, 5];
 const PIECES: [u64; 5] = [6, 13, 3, 2, 0];
@@ -32,12 +30,6 @@ const MADE: [(usize, usize, u64, u64, u8, u8, u8); 13] = [
     (4, 1, 10, 0, 1, 3, 0),
     (4, 1, 10, 0, 1, 0, 3),
 ];
-
-/// The lines that are expected, and how many calls they show.
-struct Lines {
-    text: String,
-    calls: u64,
-}
 
 impl Lines {
     fn show(&mut self, walk: &OpenWalk) {
@@ -89,7 +81,7 @@ fn with_first_row(row: u64) -> [u64; 4] {
 }
 
 pub fn compare() -> u64 {
-    let mut lines = Lines { text: String::new(), calls: 0 };
+    let mut lines = Lines::default();
     for kind in KINDS {
         lines.play(kind, &RING);
         lines.play(kind, &PIECES);
@@ -101,15 +93,5 @@ pub fn compare() -> u64 {
     lines.refused(1, &with_first_row(26));
     lines.refused(2, &with_first_row(11));
     lines.refused(3, &with_first_row(2));
-    let printed = fs::read_to_string(PRINTED).unwrap_or_else(|error| {
-        eprintln!("{PRINTED}: {error}");
-        exit(1)
-    });
-    let differing = lines.text.lines().zip(printed.lines()).position(|(own, other)| own != other);
-    if lines.text != printed {
-        eprintln!("DIFFERENCE in group e, open walks, line {}", differing.map_or(0, |i| i + 1));
-        exit(1)
-    }
-    println!("e, open walks: {} calls", lines.calls);
-    lines.calls
+    lines.compare("e, open walks", "open_walks")
 }

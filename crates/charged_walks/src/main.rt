@@ -1,0 +1,242 @@
+// Walks charged from a fixed list of calls: for each kind on plans in one piece and in two, at several rates; halves of a cent; refused calls, each
+// with everything wrong that is tried later; the largest charge there is.
+// A line for each call: the kind, how many points, places and minutes there are, the rate, the answer (0, or a refusal's number) and the cents.
+use charge::Charged;
+use searches::Kind;
+
+// The links 0-1, 0-2, 1-3.
+const TREE: [u64; 4] = [6, 9, 1, 2];
+
+// The links 0-1, 1-2, 2-3, 0-3.
+const RING: [u64; 4] = [10, 5, 10, 5];
+
+// The links 0-1, 0-2, 1-2, 1-3, and a point by itself.
+const PIECES: [u64; 5] = [6, 13, 3, 2, 0];
+
+// Four points, the last two either way round, and the five of `PIECES`, the one by itself in front.
+const IN_TURN: [u8; 4] = [0, 1, 2, 3];
+
+const TURNED: [u8; 4] = [0, 1, 3, 2];
+
+const RESTARTED: [u8; 5] = [4, 3, 1, 0, 2];
+
+const MINUTES: [u16; 4] = [10, 20, 5, 30];
+
+const LONG: [u16; 5] = [999, 0, 1, 998, 7];
+
+// The points 0 to 63.
+const ALL: [u8; 64] = [
+    0,
+    1,
+    2,
+    3,
+    4,
+    5,
+    6,
+    7,
+    8,
+    9,
+    10,
+    11,
+    12,
+    13,
+    14,
+    15,
+    16,
+    17,
+    18,
+    19,
+    20,
+    21,
+    22,
+    23,
+    24,
+    25,
+    26,
+    27,
+    28,
+    29,
+    30,
+    31,
+    32,
+    33,
+    34,
+    35,
+    36,
+    37,
+    38,
+    39,
+    40,
+    41,
+    42,
+    43,
+    44,
+    45,
+    46,
+    47,
+    48,
+    49,
+    50,
+    51,
+    52,
+    53,
+    54,
+    55,
+    56,
+    57,
+    58,
+    59,
+    60,
+    61,
+    62,
+    63,
+];
+
+fn show(n: u64) {
+    io::write_all(1, b" ");
+    io::print_decimal(1, n);
+}
+
+// One call, and its line.
+fn play(kind: u8, rows: &[u64], ordering: &[u8], minutes: &[u16], rate: u64) {
+    io::print_decimal(1, kind as u64);
+    show(rows.len() as u64);
+    show(ordering.len() as u64);
+    show(minutes.len() as u64);
+    show(rate);
+    let charged = charge::charge(Kind(kind), rows, ordering, minutes, rate);
+    match charged {
+        Charged::Cents(cents) => {
+            show(0);
+            show(cents);
+        }
+        Charged::Refused(refusal) => {
+            show(checks::number::number(refusal) as u64);
+            show(0);
+        }
+    }
+    io::write_all(1, b"\n");
+}
+
+// A walk at several rates, among them the largest, and one above it.
+fn rated(kind: u8, rows: &[u64], ordering: &[u8], minutes: &[u16]) {
+    play(kind, rows, ordering, minutes, 0);
+    play(kind, rows, ordering, minutes, 29);
+    play(kind, rows, ordering, minutes, 30);
+    play(kind, rows, ordering, minutes, 31);
+    play(kind, rows, ordering, minutes, 4530);
+    play(kind, rows, ordering, minutes, 99999);
+    play(kind, rows, ordering, minutes, 100000);
+}
+
+fn played(kind: u8) {
+    let tree = TREE;
+    let ring = RING;
+    let pieces = PIECES;
+    let in_turn = IN_TURN;
+    let turned = TURNED;
+    let restarted = RESTARTED;
+    let minutes = MINUTES;
+    let long = LONG;
+    rated(kind, &tree, &in_turn, &minutes);
+    rated(kind, &tree, &turned, &minutes);
+    rated(kind, &ring, &in_turn, &minutes);
+    rated(kind, &ring, &turned, &minutes);
+    rated(kind, &ring, &turned[..3], &minutes);
+    rated(kind, &pieces, &restarted, &long);
+    rated(kind, &pieces, &in_turn[..1], &long);
+    rated(kind, &pieces, &in_turn[..0], &long);
+}
+
+// A walk of one point, for so many minutes.
+fn single(minutes: u16, rate: u64) {
+    let rows = [0u64; 1];
+    let ordering = [0u8; 1];
+    let list = [minutes; 1];
+    play(0, &rows, &ordering, &list, rate);
+}
+
+// Halves of a cent, and what is a sixtieth less or more.
+fn halves() {
+    single(1, 29);
+    single(1, 30);
+    single(1, 31);
+    single(3, 29);
+    single(3, 30);
+    single(3, 31);
+    single(5, 30);
+    single(1, 90);
+    single(999, 30);
+    single(999, 99999);
+    single(1000, 30);
+    single(65535, 30);
+}
+
+// Each call is given everything wrong that is tried after what it is refused for.
+fn refused() {
+    let crowd = [1u64; 65];
+    let mut outside = RING;
+    outside[0] = 19;
+    let mut looped = RING;
+    looped[0] = 3;
+    let mut one_way = RING;
+    one_way[0] = 2;
+    let ring = RING;
+    let long = [9u8; 5];
+    let twice = [9u8; 2];
+    let mut again = IN_TURN;
+    again[3] = 0;
+    let mut failing = IN_TURN;
+    failing[1] = 2;
+    let few = [1000u16; 3];
+    let many = LONG;
+    let mut above = MINUTES;
+    above[3] = 1000;
+    let minutes = MINUTES;
+    play(7, &crowd, &long, &few, 100000);
+    play(6, &crowd, &long, &few, 100000);
+    play(6, &outside, &long, &few, 100000);
+    play(6, &looped, &long, &few, 100000);
+    play(6, &one_way, &long, &few, 100000);
+    play(6, &ring, &long, &few, 100000);
+    play(6, &ring, &twice, &few, 100000);
+    play(6, &ring, &again, &few, 100000);
+    play(6, &ring, &failing[..2], &few, 100000);
+    play(6, &ring, &failing[..2], &many, 100000);
+    play(6, &ring, &failing[..2], &above, 100000);
+    play(6, &ring, &failing[..1], &above, 99999);
+    play(6, &ring, &failing[..2], &minutes, 100000);
+    play(6, &ring, &failing[..2], &minutes, 18446744073709551615);
+    play(6, &ring, &failing[..2], &minutes, 99999);
+    play(6, &ring, &failing[..1], &minutes, 99999);
+}
+
+// 64 points by themselves, all of them walked, and none: no links, so all but the first are jumped to.
+fn largest(kind: u8) {
+    let rows = [0u64; 64];
+    let all = ALL;
+    let minutes = [999u16; 64];
+    play(kind, &rows, &all, &minutes, 99999);
+    play(kind, &rows, &all, &minutes, 100000);
+    play(kind, &rows, &all[..0], &minutes, 99999);
+    play(kind, &rows[..0], &all[..0], &minutes[..0], 99999);
+}
+
+fn main() {
+    played(0);
+    played(1);
+    played(2);
+    played(3);
+    played(4);
+    played(5);
+    played(6);
+    halves();
+    refused();
+    largest(0);
+    largest(1);
+    largest(2);
+    largest(3);
+    largest(4);
+    largest(5);
+    largest(6);
+}
