@@ -172,54 +172,72 @@ fn halves() {
     single(65535, 30);
 }
 
-// Each call is given everything wrong that is tried after what it is refused for.
-fn refused() {
+// A walk on the ring with another first row, a list of minutes that is too short and too high, and a rate that is too high.
+fn wrong(first_row: u64, ordering: &[u8]) {
+    let mut rows = RING;
+    rows[0] = first_row;
+    let few = [1000u16; 3];
+    play(6, &rows, ordering, &few, 100000);
+}
+
+// Refused by judge's own tests: each call is given everything wrong that is tried after what it is refused for.
+fn refused_walks() {
     let crowd = [1u64; 65];
-    let mut outside = RING;
-    outside[0] = 19;
-    let mut looped = RING;
-    looped[0] = 3;
-    let mut one_way = RING;
-    one_way[0] = 2;
-    let ring = RING;
+    let few = [1000u16; 3];
     let long = [9u8; 5];
-    let twice = [9u8; 2];
-    let mut again = IN_TURN;
-    again[3] = 0;
-    let mut failing = IN_TURN;
-    failing[1] = 2;
+    let twice = [0u8, 1u8, 0u8];
+    play(7, &crowd, &long, &few, 100000);
+    play(6, &crowd, &long, &few, 100000);
+    wrong(19, &long);
+    wrong(3, &long);
+    wrong(2, &long);
+    wrong(10, &long);
+    wrong(10, &long[..2]);
+    wrong(10, &twice);
+}
+
+// A walk of two points on the ring that fails, or its first point alone, which passes.
+fn billed(k: usize, minutes: &[u16], rate: u64) {
+    let ring = RING;
+    let failing = [0u8, 2u8];
+    if k == 1 {
+        play(6, &ring, &failing[..1], minutes, rate);
+    } else {
+        play(6, &ring, &failing, minutes, rate);
+    }
+}
+
+// Refused with 18, 19 and 20 likewise, and then not refused.
+fn refused_bills() {
     let few = [1000u16; 3];
     let many = LONG;
     let mut above = MINUTES;
     above[3] = 1000;
     let minutes = MINUTES;
-    play(7, &crowd, &long, &few, 100000);
-    play(6, &crowd, &long, &few, 100000);
-    play(6, &outside, &long, &few, 100000);
-    play(6, &looped, &long, &few, 100000);
-    play(6, &one_way, &long, &few, 100000);
-    play(6, &ring, &long, &few, 100000);
-    play(6, &ring, &twice, &few, 100000);
-    play(6, &ring, &again, &few, 100000);
-    play(6, &ring, &failing[..2], &few, 100000);
-    play(6, &ring, &failing[..2], &many, 100000);
-    play(6, &ring, &failing[..2], &above, 100000);
-    play(6, &ring, &failing[..1], &above, 99999);
-    play(6, &ring, &failing[..2], &minutes, 100000);
-    play(6, &ring, &failing[..2], &minutes, 18446744073709551615);
-    play(6, &ring, &failing[..2], &minutes, 99999);
-    play(6, &ring, &failing[..1], &minutes, 99999);
+    billed(2, &few, 100000);
+    billed(2, &many, 100000);
+    billed(2, &above, 100000);
+    billed(1, &above, 99999);
+    billed(2, &minutes, 100000);
+    billed(2, &minutes, 18446744073709551615);
+    billed(2, &minutes, 99999);
+    billed(1, &minutes, 99999);
 }
 
-// 64 points by themselves, all of them walked, and none: no links, so all but the first are jumped to.
+// 64 points by themselves, all of them walked: without a link all but the first are jumped to.
 fn largest(kind: u8) {
     let rows = [0u64; 64];
     let all = ALL;
     let minutes = [999u16; 64];
     play(kind, &rows, &all, &minutes, 99999);
-    play(kind, &rows, &all, &minutes, 100000);
-    play(kind, &rows, &all[..0], &minutes, 99999);
-    play(kind, &rows[..0], &all[..0], &minutes[..0], 99999);
+}
+
+// No points at all.
+fn empty(kind: u8) {
+    let rows = [0u64; 0];
+    let ordering = [0u8; 0];
+    let minutes = [0u16; 0];
+    rated(kind, &rows, &ordering, &minutes);
 }
 
 fn main() {
@@ -231,7 +249,8 @@ fn main() {
     played(5);
     played(6);
     halves();
-    refused();
+    refused_walks();
+    refused_bills();
     largest(0);
     largest(1);
     largest(2);
@@ -239,4 +258,6 @@ fn main() {
     largest(4);
     largest(5);
     largest(6);
+    empty(0);
+    empty(6);
 }
