@@ -1,6 +1,6 @@
 -- The minutes of an ordering, added up position by position, and how many they can be.
 --   first-none, later-unless-led   no 7 minutes for the first position, and for a later one unless the vertex before it leads to it
---   jump-few                       7 minutes at most
+--   jump-few, jump-counted         7 minutes at most; one position more
 --   Added arc w minutes p total    the loop's invariant: the total of the first p positions, and a bound that keeps it far from wrapping
 --   added-start, added-more        at the start, and after one position more;   added-all   at the end
 --   minutes-bounded                k positions of at most 999 minutes each, with a jump to all but the first
@@ -9,10 +9,13 @@ use mathlib.Core.Path.{_≡_, refl, sym, ap, _∙_}
 use mathlib.Core.Bool.{Bool, true, false, cond, not, _&&_}
 use mathlib.Core.List.{List}
 use Prim.Native.Nat.{ℕ, zero, suc, _+_, _-_, _*_, _≤_, _<_}
+use native.Mathlib.Nat.{mul-suc}
 use native.Mathlib.Numerals.{add-one}
 use native.Mathlib.Omega.{arith}
 use lib.Dec.{eqb}
 use lib.ListN.{length}
+use Rattle.bitset.specs.Below.{countBelow}
+use Rattle.bitset.proofs.Count.{count-bottom, count-le}
 use Rattle.searches.specs.Ordering.{at}
 use Rattle.charge.specs.Minutes.{sumBelow, jump, jumpMinutes, minutesOf}
 
@@ -41,6 +44,14 @@ module _ (arc : ℕ → ℕ → Bool) (w : List ℕ) (p : ℕ) where
       go true = omega arith
       go false = omega arith
 
+  jump-counted : 7 * countBelow (suc p) (jump arc w) ≡ 7 * countBelow p (jump arc w) + jumpMinutes arc w p
+  unfolding countBelow jumpMinutes
+  jump-counted = go (jump arc w p) (countBelow p (jump arc w))
+    where
+      go : (b : Bool) (count : ℕ) → 7 * cond b (suc count) count ≡ 7 * count + cond b 7 0
+      go true count = omega arith
+      go false count = omega arith
+
 module _ (arc : ℕ → ℕ → Bool) (w minutes : List ℕ) where
   -- an entry is below 65536, and a jump takes 7 minutes
   pub record Added (p total : ℕ) : Type 0 where
@@ -49,7 +60,7 @@ module _ (arc : ℕ → ℕ → Bool) (w minutes : List ℕ) where
     pub small : total ≤ 65542 * p
 
   pub added-start : Added 0 0
-  unfolding minutesOf sumBelow
+  unfolding minutesOf sumBelow countBelow
   added-start = record { within = omega arith; same = refl; small = omega arith }
 
   pub added-more : {p total own more : ℕ} → Added p total → p < length w → own ≡ at minutes (at w p) → own < 65536 → more ≡ jumpMinutes arc w p
@@ -57,7 +68,7 @@ module _ (arc : ℕ → ℕ → Bool) (w minutes : List ℕ) where
   unfolding minutesOf sumBelow
   added-more {p} {total} {own} {more} added l of-vertex narrow of-jump = record {
     within = omega arith;
-    same = rw (add-one p) (omega (arith, added .same));
+    same = rw (add-one p) (omega (arith, added .same, jump-counted arc w p));
     small = omega (arith, added .small, jump-few arc w p);
   }
 
@@ -68,8 +79,17 @@ module _ (arc : ℕ → ℕ → Bool) (w minutes : List ℕ) where
 
   -- ---- how many they can be
 
+  sum-bounded : (b : ℕ) (f : ℕ → ℕ) → ((p : ℕ) → f p ≤ b) → (k : ℕ) → sumBelow k f ≤ b * k
+  unfolding sumBelow
+  sum-bounded b f each zero = omega arith
+  sum-bounded b f each (suc k) = omega (arith, each k, sum-bounded b f each k, mul-suc b k)
+
+  -- no jump leads to the first position
+  jumps-bounded : (k : ℕ) → countBelow k (jump arc w) ≤ k - 1
+  unfolding jump
+  jumps-bounded zero = count-le zero (jump arc w)
+  jumps-bounded (suc k) = omega (arith, count-bottom k (jump arc w), count-le k (λ i. jump arc w (suc i)))
+
   pub minutes-bounded : ((v : ℕ) → at minutes v ≤ 999) → (k : ℕ) → minutesOf arc w k minutes ≤ 999 * k + 7 * (k - 1)
-  unfolding minutesOf sumBelow
-  minutes-bounded each zero = omega arith
-  minutes-bounded each (suc zero) = omega (arith, each (at w 0), first-none arc w 0 refl)
-  minutes-bounded each (suc (suc k)) = omega (arith, each (at w (suc k)), jump-few arc w (suc k), minutes-bounded each (suc k))
+  unfolding minutesOf
+  minutes-bounded each k = omega (arith, sum-bounded 999 (λ p. at minutes (at w p)) (λ p. each (at w p)) k, jumps-bounded k)

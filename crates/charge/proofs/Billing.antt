@@ -2,7 +2,7 @@
 -- done in the modules that the proofs cite. That nothing is altered: all lists are passed as `&`. That the call ends is part of its proof.
 -- Assumes nothing.
 use mathlib.Core.Path.{_≡_, refl, sym, ap, _∙_, subst}
-use mathlib.Core.Logic.{_↔_, _⊎_}
+use mathlib.Core.Logic.{_↔_}
 use mathlib.Core.Bool.{Bool, not}
 use mathlib.Core.List.{List, [], _∷_, map}
 use Prim.Native.Nat.{ℕ, _+_, _*_, _^_, _≤_, _<_}
@@ -16,7 +16,7 @@ use Rattle.searches.specs.Answer.{isPass, openTests, judgeTests, Accepts, Refus
 use Rattle.searches.proofs.Refusals.{refuses-first, accepts-none}
 use Rattle.charge.specs.Minutes.{minutesOf}
 use Rattle.charge.specs.Rounding.{distance, halvesUp, Rounds, rounded}
-use Rattle.charge.specs.Charge.{product, nearestCent, largestMinutes, largestProduct, malformedMinutes, billTests, chargeTests, Chargeable}
+use Rattle.charge.specs.Charge.{product, nearestCent, largestMinutes, largestProduct, malformedMinutes, Malformed, billTests, chargeTests, Chargeable}
 use Rattle.charge.specs.Charge.{owed, refused, chargeAnswer}
 use Rattle.charge.proofs.Rounding as rounding
 use Rattle.charge.proofs.Charging as charging
@@ -57,8 +57,7 @@ module _ (kind : ℕ) (rows w minutes : List ℕ) (rate : ℕ) where
   )
 
   -- 18: the list of minutes has not n entries, or has one above 999, of a placed point or not
-  pub malformed-exactly : T (malformedMinutes (length rows) minutes)
-      ↔ ((length minutes ≡ length rows → ⊥) ⊎ ((v : ℕ) × (v < length minutes) × (999 < at minutes v)))
+  pub malformed-exactly : T (malformedMinutes (length rows) minutes) ↔ Malformed (length rows) minutes
   malformed-exactly = (charging.malformed-out (length rows) minutes, charging.malformed-in (length rows) minutes)
 
   -- 20: the walk does not pass the named search: where judge does not refuse it, it fails

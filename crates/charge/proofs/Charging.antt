@@ -29,25 +29,24 @@ use Rattle.searches.proofs.Refusals.{refuses-first, accepts-none, accepts-or-re
 use Rattle.searches.proofs.Answers.{accepts-both, both-accept, valid-small, isPass-out, accepted-ordering, judge-accepted, judge-refused, refused-judge}
 use Rattle.checks.proofs.Tried.{tried-first, refused-before}
 use Rattle.charge.specs.Minutes.{minutesOf}
-use Rattle.charge.specs.Charge.{product, nearestCent, largestMinutes, largestProduct, malformedMinutes, billTests, chargeTests, Chargeable}
+use Rattle.charge.specs.Charge.{product, nearestCent, largestMinutes, largestProduct, malformedMinutes, Malformed, billTests, chargeTests, Chargeable}
 use Rattle.charge.specs.Charge.{owed, refused, chargeAnswer}
 use Rattle.charge.proofs.Adding.{minutes-bounded}
 
 -- ---- the list of minutes
 
 module _ (n : ℕ) (minutes : List ℕ) where
-  pub malformed-in : (length minutes ≡ n → ⊥) ⊎ ((v : ℕ) × (v < length minutes) × (999 < at minutes v)) → T (malformedMinutes n minutes)
+  pub malformed-in : Malformed n minutes → T (malformedMinutes n minutes)
   unfolding malformedMinutes
   malformed-in (inl other) = or-inl (not (eqb (length minutes) n)) _ (not-T (eqb (length minutes) n) (λ t. other (eqb→eq (length minutes) n t)))
   malformed-in (inr x) =
       or-inr (not (eqb (length minutes) n)) _ (any-at (length minutes) (λ i. ltb 999 (at minutes i)) (x .0) (x .1) (lt→ltb 999 (at minutes (x .0)) (x .2)))
 
-  pub malformed-out : T (malformedMinutes n minutes) → (length minutes ≡ n → ⊥) ⊎ ((v : ℕ) × (v < length minutes) × (999 < at minutes v))
+  pub malformed-out : T (malformedMinutes n minutes) → Malformed n minutes
   unfolding malformedMinutes
   malformed-out t = go (or-out (not (eqb (length minutes) n)) (anyBelow (length minutes) (λ i. ltb 999 (at minutes i))) t)
     where
-      go : T (not (eqb (length minutes) n)) ⊎ T (anyBelow (length minutes) (λ i. ltb 999 (at minutes i)))
-          → (length minutes ≡ n → ⊥) ⊎ ((v : ℕ) × (v < length minutes) × (999 < at minutes v))
+      go : T (not (eqb (length minutes) n)) ⊎ T (anyBelow (length minutes) (λ i. ltb 999 (at minutes i))) → Malformed n minutes
       go (inl other) = inl (λ e. T-not (eqb (length minutes) n) other (subst (λ (i : ℕ). T (eqb (length minutes) i)) e (eqb-refl (length minutes))))
       go (inr some-above) =
           let x = any-out (length minutes) (λ i. ltb 999 (at minutes i)) some-above in
@@ -79,26 +78,17 @@ module _ (kind : ℕ) (rows w minutes : List ℕ) (rate : ℕ) where
   -- ---- nothing is refused exactly where every condition holds
 
   pub chargeable-out : Accepts (chargeTests kind rows w minutes rate) → Chargeable kind rows w minutes rate
-  unfolding chargeTests billTests
+  unfolding chargeTests billTests malformedMinutes
   chargeable-out a =
       let x = accepts-both (judgeTests kind rows w) _ a in
+      let as-many : Bool = eqb (length minutes) (length rows) in
       record {
         judged = x .0;
-        listed = same-length (below-or (length minutes) (length rows)) (below-or (length rows) (length minutes)) (x .1 .0);
-        each = λ v l. within (x .1 .0) v l (below-or 999 (at minutes v));
+        listed = eqb→eq (length minutes) (length rows) (not-not as-many (not-T (not as-many) (λ t. x .1 .0 (or-inl (not as-many) _ t))));
+        each = λ v l. nltb→le 999 (at minutes v) (not-T (ltb 999 (at minutes v)) (λ t. x .1 .0 (malformed-in (length rows) minutes (inr (v, l, ltb→lt 999 (at minutes v) t)))));
         rated = nltb→le 99999 rate (not-T (ltb 99999 rate) (x .1 .1 .0));
         passing = isPass-out verdict (not-not (isPass verdict) (not-T (not (isPass verdict)) (x .1 .1 .1 .0)));
       }
-    where
-      same-length : (length minutes < length rows) ⊎ (length rows ≤ length minutes) → (length rows < length minutes) ⊎ (length minutes ≤ length rows)
-          → (T (malformedMinutes (length rows) minutes) → ⊥) → length minutes ≡ length rows
-      same-length (inl l) b sound = absurd (sound (malformed-in (length rows) minutes (inl (λ e. omega arith))))
-      same-length (inr l) (inl h) sound = absurd (sound (malformed-in (length rows) minutes (inl (λ e. omega arith))))
-      same-length (inr l) (inr h) sound = omega arith
-
-      within : (T (malformedMinutes (length rows) minutes) → ⊥) → (v : ℕ) → v < length minutes → (999 < at minutes v) ⊎ (at minutes v ≤ 999) → at minutes v ≤ 999
-      within sound v l (inl above) = absurd (sound (malformed-in (length rows) minutes (inr (v, l, above))))
-      within sound v l (inr h) = h
 
   pub chargeable-in : Chargeable kind rows w minutes rate → Accepts (chargeTests kind rows w minutes rate)
   unfolding chargeTests billTests isPass
@@ -108,7 +98,7 @@ module _ (kind : ℕ) (rows w minutes : List ℕ) (rate : ℕ) where
         (λ t. let h = ltb→lt 99999 rate t in let l = able .rated in omega arith, (λ t. subst (λ (v : Verdict). T (not (isPass v))) (able .passing) t, tt)),
       )
     where
-      sound : (length minutes ≡ length rows → ⊥) ⊎ ((v : ℕ) × (v < length minutes) × (999 < at minutes v)) → ⊥
+      sound : Malformed (length rows) minutes → ⊥
       sound (inl other) = other (able .listed)
       sound (inr x) = let l = able .each (x .0) (x .1) in let h = x .2 in omega arith
 

@@ -2,7 +2,7 @@
 --   product arc w minutes rate              the minutes of w times the rate in cents an hour: the exact charge, in sixtieths of a cent
 --   nearestCent x                           x sixtieths of a cent, rounded to the nearest cent, halves up               [02: K2]
 --   largestMinutes, largestProduct          64 points of 999 minutes with a jump to all but the first; at the largest rate
---   malformedMinutes n minutes              the list has not n entries, or one above 999
+--   malformedMinutes n minutes              the list has not n entries, or one above 999;   Malformed n minutes   the same in words
 --   billTests n minutes rate passing        what is refused after judge's tests: numbers and tests in 02's order
 --   chargeTests kind rows w minutes rate    all tests: judge's, then these
 --   Chargeable kind rows w minutes rate     what is not refused, condition by condition
@@ -11,6 +11,7 @@
 --   billOf                                  an answer of the code as 02's number and values
 use Prim.Native.Nat.{ℕ, _+_, _*_, _/_, _≤_, _<_}
 use mathlib.Core.Path.{_≡_}
+use mathlib.Core.Logic.{_⊎_}
 use mathlib.Core.Bool.{Bool, not, _||_}
 use mathlib.Core.List.{List, [], _∷_, _++_}
 use mathlib.Core.Option.{none, some}
@@ -40,6 +41,9 @@ largestProduct = largestMinutes * 99999
 unfoldable pub malformedMinutes : ℕ → List ℕ → Bool
 malformedMinutes n minutes = not (eqb (length minutes) n) || anyBelow (length minutes) (λ v. ltb 999 (at minutes v))
 
+abbrev pub Malformed : ℕ → List ℕ → Type 0
+Malformed n minutes = (length minutes ≡ n → ⊥) ⊎ ((v : ℕ) × (v < length minutes) × (999 < at minutes v))
+
 unfoldable pub billTests : ℕ → List ℕ → ℕ → Bool → List (ℕ × Bool)
 billTests n minutes rate passing =
     (18, malformedMinutes n minutes)
@@ -53,10 +57,14 @@ chargeTests kind rows w minutes rate =
     ++ billTests (length rows) minutes rate (isPass (judge (searchOf kind) (arcs rows) (length rows) w (length w)))
 
 pub record Chargeable (kind : ℕ) (rows w minutes : List ℕ) (rate : ℕ) : Type 0 where
+  -- judge refuses nothing
   pub judged : Accepts (judgeTests kind rows w)
+  -- the list of minutes has n entries, none above 999
   pub listed : length minutes ≡ length rows
   pub each : (v : ℕ) → v < length minutes → at minutes v ≤ 999
+  -- the rate is no higher than it may be
   pub rated : rate ≤ 99999
+  -- the walk passes the search
   pub passing : judge (searchOf kind) (arcs rows) (length rows) w (length w) ≡ passes
 
 pub data Bill : Type 0 where

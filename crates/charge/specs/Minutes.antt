@@ -2,11 +2,12 @@
 --   sumBelow n f                 f at the numbers below n, added up
 --   jump arc w p                 position p is not the first, and the vertex placed directly before does not lead to the one at p
 --   jumpMinutes arc w p          7 for a jump, else 0
---   minutesOf arc w k minutes    of the vertices at the first k positions the minutes, and 7 more for each jump to one      [02: K2, minutes]
-use Prim.Native.Nat.{ℕ, zero, suc, _+_, _-_}
+--   minutesOf arc w k minutes    the minutes of the vertices at the first k positions, and 7 for each jump to one of these       [02: K2, minutes]
+use Prim.Native.Nat.{ℕ, zero, suc, _+_, _-_, _*_}
 use mathlib.Core.Bool.{Bool, cond, not, _&&_}
 use mathlib.Core.List.{List}
 use lib.Dec.{eqb}
+use Rattle.bitset.specs.Below.{countBelow}
 use Rattle.searches.specs.Ordering.{at}
 
 unfoldable pub sumBelow : ℕ → (ℕ → ℕ) → ℕ
@@ -20,4 +21,4 @@ unfoldable pub jumpMinutes : (ℕ → ℕ → Bool) → List ℕ → ℕ → ℕ
 jumpMinutes arc w p = cond (jump arc w p) 7 0
 
 unfoldable pub minutesOf : (ℕ → ℕ → Bool) → List ℕ → ℕ → List ℕ → ℕ
-minutesOf arc w k minutes = sumBelow k (λ p. at minutes (at w p) + jumpMinutes arc w p)
+minutesOf arc w k minutes = sumBelow k (λ p. at minutes (at w p)) + 7 * countBelow k (jump arc w)

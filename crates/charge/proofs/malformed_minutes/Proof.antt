@@ -1,8 +1,8 @@
 -- `charge::malformed_minutes` meets its contract: the list has n entries, and no entry that was passed is above 999.
 -- Assumes nothing.
-use Prim.Native.Nat.{ℕ, _-_, _<_}
-use mathlib.Core.Path.{_≡_, sym}
-use mathlib.Core.Logic.{_⊎_, inl, inr}
+use Prim.Native.Nat.{_-_}
+use mathlib.Core.Path.{sym}
+use mathlib.Core.Logic.{inl, inr}
 use denote.Ref.{now}
 use native.Mathlib.Omega.{arith}
 use borrow.Author.Tests.{le-ltb}
@@ -11,7 +11,7 @@ use lib.ListN.{length}
 use Rattle.bitset.proofs.Tests.{is-true, is-false}
 use Rattle.bitset.proofs.Passed.{Passed, passed-start, passed-more}
 use Rattle.searches.specs.Ordering.{at}
-use Rattle.charge.specs.Charge.{malformedMinutes}
+use Rattle.charge.specs.Charge.{malformedMinutes, Malformed}
 use Rattle.charge.proofs.Charging.{malformed-in, malformed-out}
 use Rattle.charge.proofs.malformed_minutes.Statement.{statement}
 use Rattle.charge.proofs.malformed_minutes.Tie as tie
@@ -54,8 +54,7 @@ returns-3 c =
     let a = c .before .before .before .args in
     sym (is-false (malformedMinutes (a .n) (now (a .minutes))) (λ t. go (malformed-out (a .n) (now (a .minutes)) t)))
   where
-    go : (length (now (c .before .before .before .args .minutes)) ≡ c .before .before .before .args .n → ⊥)
-        ⊎ ((v : ℕ) × (v < length (now (c .before .before .before .args .minutes))) × (999 < at (now (c .before .before .before .args .minutes)) v)) → ⊥
+    go : Malformed (c .before .before .before .args .n) (now (c .before .before .before .args .minutes)) → ⊥
     go (inl other) = other (c .before .before .if1 .left)
     go (inr x) = c .before .loop .inv .none (x .0) (omega (arith, x .1)) (lt→ltb 999 _ (x .2))
 
