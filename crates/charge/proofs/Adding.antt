@@ -1,9 +1,10 @@
 -- The minutes of an ordering, added up position by position, and how many they can be.
---   first-none, later-unless-led   no 7 minutes for the first position, and for a later one unless the vertex before it leads to it
---   jump-few, jump-counted         7 minutes at most; one position more
---   Added arc w minutes p total    the loop's invariant: the total of the first p positions, and a bound that keeps it far from wrapping
+--   first-none, later-unless-led   no 7 minutes for the first position; 7 for a later one, unless the vertex before leads to it
+--   jump-counted                   one position more is one jump more, or none
+--   Added arc w minutes p total    the loop's invariant: the total is the minutes of the first p positions
 --   added-start, added-more        at the start, and after one position more;   added-all   at the end
---   minutes-bounded                k positions of at most 999 minutes each, with a jump to all but the first
+--   minutes-bounded                the minutes of k positions, with at most 999 for each and a jump to all but the first
+--   added-bounded                  the total is far from wrapping
 -- Assumes nothing.
 use mathlib.Core.Path.{_≡_, refl, sym, ap, _∙_}
 use mathlib.Core.Bool.{Bool, true, false, cond, not, _&&_}
@@ -36,14 +37,6 @@ module _ (arc : ℕ → ℕ → Bool) (w : List ℕ) (p : ℕ) where
       turned true = refl
       turned false = refl
 
-  pub jump-few : jumpMinutes arc w p ≤ 7
-  unfolding jumpMinutes
-  jump-few = go (jump arc w p)
-    where
-      go : (b : Bool) → cond b 7 0 ≤ 7
-      go true = omega arith
-      go false = omega arith
-
   jump-counted : 7 * countBelow (suc p) (jump arc w) ≡ 7 * countBelow p (jump arc w) + jumpMinutes arc w p
   unfolding countBelow jumpMinutes
   jump-counted = go (jump arc w p) (countBelow p (jump arc w))
@@ -53,23 +46,20 @@ module _ (arc : ℕ → ℕ → Bool) (w : List ℕ) (p : ℕ) where
       go false count = omega arith
 
 module _ (arc : ℕ → ℕ → Bool) (w minutes : List ℕ) where
-  -- an entry is below 65536, and a jump takes 7 minutes
   pub record Added (p total : ℕ) : Type 0 where
     pub within : p ≤ length w
     pub same : total ≡ minutesOf arc w p minutes
-    pub small : total ≤ 65542 * p
 
   pub added-start : Added 0 0
   unfolding minutesOf sumBelow countBelow
-  added-start = record { within = omega arith; same = refl; small = omega arith }
+  added-start = record { within = omega arith; same = refl }
 
-  pub added-more : {p total own more : ℕ} → Added p total → p < length w → own ≡ at minutes (at w p) → own < 65536 → more ≡ jumpMinutes arc w p
+  pub added-more : {p total own more : ℕ} → Added p total → p < length w → own ≡ at minutes (at w p) → more ≡ jumpMinutes arc w p
       → Added (p + 1) (total + own + more)
   unfolding minutesOf sumBelow
-  added-more {p} {total} {own} {more} added l of-vertex narrow of-jump = record {
+  added-more {p} {total} {own} {more} added l of-vertex of-jump = record {
     within = omega arith;
     same = rw (add-one p) (omega (arith, added .same, jump-counted arc w p));
-    small = omega (arith, added .small, jump-few arc w p);
   }
 
   pub added-all : {p total : ℕ} → Added p total → length w ≤ p → total ≡ minutesOf arc w (length w) minutes
@@ -93,3 +83,6 @@ module _ (arc : ℕ → ℕ → Bool) (w minutes : List ℕ) where
   pub minutes-bounded : ((v : ℕ) → at minutes v ≤ 999) → (k : ℕ) → minutesOf arc w k minutes ≤ 999 * k + 7 * (k - 1)
   unfolding minutesOf
   minutes-bounded each k = omega (arith, sum-bounded 999 (λ p. at minutes (at w p)) (λ p. each (at w p)) k, jumps-bounded k)
+
+  pub added-bounded : ((v : ℕ) → at minutes v ≤ 999) → {p total : ℕ} → Added p total → total ≤ 1006 * length w
+  added-bounded each {p} {total} added = omega (arith, added .within, added .same, minutes-bounded each p)

@@ -1,10 +1,10 @@
 -- What charging refuses, and what is known of the lists where it refuses nothing.
 --   malformed-in, malformed-out              what 18's test means
+--   unpassed-fails, fails-unpassed           what 20's test means;   fails-accepts   what fails is not refused
 --   judged-refused, judged-decided           what judge's verdict leaves of the tests: its refusal, or those after it
 --   chargeable-in, chargeable-out            nothing is refused exactly where every condition holds
 --   length-bounded, charged-minutes-bounded, product-bounded   how many points, minutes and sixtieths of a cent there can then be
---   charge-refused, charge-accepted          the answer, refused and not;   refused-charge, owed-charge   and what it says
---   unpassed-fails, fails-unpassed           what 20's test means
+--   charge-refused, charge-accepted          the answer from the tests;   refused-charge, cents-charge   the tests from the answer
 -- Assumes nothing.
 use mathlib.Core.Path.{_≡_, refl, sym, ap, _∙_, subst}
 use mathlib.Core.Logic.{_⊎_, inl, inr}
@@ -29,11 +29,14 @@ use Rattle.searches.proofs.Refusals.{refuses-first, accepts-none, accepts-or-re
 use Rattle.searches.proofs.Answers.{accepts-both, both-accept, valid-small, isPass-out, accepted-ordering, judge-accepted, judge-refused, refused-judge}
 use Rattle.checks.proofs.Tried.{tried-first, refused-before}
 use Rattle.charge.specs.Minutes.{minutesOf}
-use Rattle.charge.specs.Charge.{product, nearestCent, largestMinutes, largestProduct, malformedMinutes, Malformed, billTests, chargeTests, Chargeable}
-use Rattle.charge.specs.Charge.{owed, refused, chargeAnswer}
+use Rattle.charge.specs.Charge.{product, centsHalvesUp, largestMinutes, largestProduct, malformedMinutes, Malformed, testsAfterJudge, chargeTests, Chargeable}
+use Rattle.charge.specs.Charge.{cents, refused, chargeAnswer}
 use Rattle.charge.proofs.Adding.{minutes-bounded}
 
 -- ---- the list of minutes
+
+differs : (a b : ℕ) → T (not (eqb a b)) → a ≡ b → ⊥
+differs a b t e = T-not (eqb a b) t (subst (λ (i : ℕ). T (eqb a i)) e (eqb-refl a))
 
 module _ (n : ℕ) (minutes : List ℕ) where
   pub malformed-in : Malformed n minutes → T (malformedMinutes n minutes)
@@ -47,51 +50,77 @@ module _ (n : ℕ) (minutes : List ℕ) where
   malformed-out t = go (or-out (not (eqb (length minutes) n)) (anyBelow (length minutes) (λ i. ltb 999 (at minutes i))) t)
     where
       go : T (not (eqb (length minutes) n)) ⊎ T (anyBelow (length minutes) (λ i. ltb 999 (at minutes i))) → Malformed n minutes
-      go (inl other) = inl (λ e. T-not (eqb (length minutes) n) other (subst (λ (i : ℕ). T (eqb (length minutes) i)) e (eqb-refl (length minutes))))
+      go (inl other) = inl (differs (length minutes) n other)
       go (inr some-above) =
           let x = any-out (length minutes) (λ i. ltb 999 (at minutes i)) some-above in
           inr (x .at, x .below, ltb→lt 999 (at minutes (x .at)) (x .holds))
 
--- ---- what judge's verdict leaves of the tests
+-- ---- what 20's test means
 
-module _ (kind : ℕ) (rows w minutes : List ℕ) (rate : ℕ) where
+module _ (kind : ℕ) (rows w : List ℕ) where
   abbrev verdict : Verdict
   verdict = judge (searchOf kind) (arcs rows) (length rows) w (length w)
 
+  pub unpassed-fails : Accepts (judgeTests kind rows w) → T (not (isPass verdict)) → Fails (judgeAnswer kind rows w)
+  unfolding isPass
+  unpassed-fails a t = go (judgeAnswer kind rows w) refl (subst (λ (v : Verdict). T (not (isPass v))) (sym (judge-accepted kind rows w a)) t)
+    where
+      go : (v : Verdict) → judgeAnswer kind rows w ≡ v → T (not (isPass v)) → Fails (judgeAnswer kind rows w)
+      go passes e t = absurd t
+      go (fails a b c) e t = (a, b, c, e)
+      go (violation.refused r) e t =
+          let clash : _≡_ {A = ℕ} 0 1 = cc (accepts-none (judgeTests kind rows w) a, refuses-first (judgeTests kind rows w) r (refused-judge kind rows w r e)) in
+          absurd (omega arith)
+
+  pub fails-accepts : Fails (judgeAnswer kind rows w) → Accepts (judgeTests kind rows w)
+  fails-accepts x = go (accepts-or-refuses (judgeTests kind rows w))
+    where
+      go : Accepts (judgeTests kind rows w) ⊎ ((q : ℕ) × Refuses q (judgeTests kind rows w)) → Accepts (judgeTests kind rows w)
+      go (inl a) = a
+      go (inr y) = let clash : _≡_ {A = ℕ} 0 1 = cc (x .3, judge-refused kind rows w (y .0) (y .1)) in absurd (omega arith)
+
+  pub fails-unpassed : Accepts (judgeTests kind rows w) → Fails (judgeAnswer kind rows w) → T (not (isPass verdict))
+  unfolding isPass
+  fails-unpassed a x = subst (λ (v : Verdict). T (not (isPass v))) (sym (x .3) ∙ judge-accepted kind rows w a) tt
+
+-- ---- what judge's verdict leaves of the tests
+
+module _ (kind : ℕ) (rows w minutes : List ℕ) (rate : ℕ) where
   pub judged-refused : (r : ℕ) → violation.refused r ≡ judgeAnswer kind rows w → some r ≡ firstRefusal (chargeTests kind rows w minutes rate)
   unfolding chargeTests
   judged-refused r e =
       refused-before (judgeTests kind rows w) _ (sym (refuses-first (judgeTests kind rows w) r (refused-judge kind rows w r (sym e))))
 
   pub judged-decided : {v : Verdict} → v ≡ judgeAnswer kind rows w → ((r : ℕ) → v ≡ violation.refused r → ⊥)
-      → firstRefusal (billTests (length rows) minutes rate (isPass v)) ≡ firstRefusal (chargeTests kind rows w minutes rate)
+      → firstRefusal (testsAfterJudge (length rows) minutes rate (isPass v)) ≡ firstRefusal (chargeTests kind rows w minutes rate)
   unfolding chargeTests
   judged-decided {v} e decided = go (accepts-or-refuses (judgeTests kind rows w))
     where
       go : Accepts (judgeTests kind rows w) ⊎ ((q : ℕ) × Refuses q (judgeTests kind rows w))
-          → firstRefusal (billTests (length rows) minutes rate (isPass v)) ≡ firstRefusal (chargeTests kind rows w minutes rate)
+          → firstRefusal (testsAfterJudge (length rows) minutes rate (isPass v)) ≡ firstRefusal (chargeTests kind rows w minutes rate)
       go (inl a) =
-          ap (λ (x : Verdict). firstRefusal (billTests (length rows) minutes rate (isPass x))) (e ∙ judge-accepted kind rows w a)
-          ∙ tried-first (judgeTests kind rows w) (billTests (length rows) minutes rate (isPass verdict)) (sym (accepts-none (judgeTests kind rows w) a)) .same
+          ap (λ (x : Verdict). firstRefusal (testsAfterJudge (length rows) minutes rate (isPass x))) (e ∙ judge-accepted kind rows w a)
+          ∙ tried-first (judgeTests kind rows w) (testsAfterJudge (length rows) minutes rate (isPass (verdict kind rows w))) (sym (accepts-none (judgeTests kind rows w) a)) .same
       go (inr x) = absurd (decided (x .0) (e ∙ judge-refused kind rows w (x .0) (x .1)))
 
   -- ---- nothing is refused exactly where every condition holds
 
   pub chargeable-out : Accepts (chargeTests kind rows w minutes rate) → Chargeable kind rows w minutes rate
-  unfolding chargeTests billTests malformedMinutes
+  unfolding chargeTests testsAfterJudge
   chargeable-out a =
       let x = accepts-both (judgeTests kind rows w) _ a in
+      let sound : Malformed (length rows) minutes → ⊥ = λ m. x .1 .0 (malformed-in (length rows) minutes m) in
       let as-many : Bool = eqb (length minutes) (length rows) in
       record {
         judged = x .0;
-        listed = eqb→eq (length minutes) (length rows) (not-not as-many (not-T (not as-many) (λ t. x .1 .0 (or-inl (not as-many) _ t))));
-        each = λ v l. nltb→le 999 (at minutes v) (not-T (ltb 999 (at minutes v)) (λ t. x .1 .0 (malformed-in (length rows) minutes (inr (v, l, ltb→lt 999 (at minutes v) t)))));
+        listed = eqb→eq (length minutes) (length rows) (not-not as-many (not-T (not as-many) (λ t. sound (inl (differs (length minutes) (length rows) t)))));
+        each = λ v l. nltb→le 999 (at minutes v) (not-T (ltb 999 (at minutes v)) (λ t. sound (inr (v, l, ltb→lt 999 (at minutes v) t))));
         rated = nltb→le 99999 rate (not-T (ltb 99999 rate) (x .1 .1 .0));
-        passing = isPass-out verdict (not-not (isPass verdict) (not-T (not (isPass verdict)) (x .1 .1 .1 .0)));
+        passing = isPass-out (verdict kind rows w) (not-not (isPass (verdict kind rows w)) (not-T (not (isPass (verdict kind rows w))) (x .1 .1 .1 .0)));
       }
 
   pub chargeable-in : Chargeable kind rows w minutes rate → Accepts (chargeTests kind rows w minutes rate)
-  unfolding chargeTests billTests isPass
+  unfolding chargeTests testsAfterJudge isPass
   chargeable-in able =
       both-accept (judgeTests kind rows w) _ (able .judged) (
         λ t. sound (malformed-out (length rows) minutes t),
@@ -111,7 +140,7 @@ module _ (kind : ℕ) (rows w minutes : List ℕ) (rate : ℕ) where
         omega (arith, valid-small kind rows (x .0), ordering-fits (length rows) (x .1))
 
     -- an entry behind the last is 0
-    entry-bounded : (v : ℕ) → at minutes v ≤ 999
+    pub entry-bounded : (v : ℕ) → at minutes v ≤ 999
     entry-bounded v = go (below-or v (length minutes))
       where
         go : (v < length minutes) ⊎ (length minutes ≤ v) → at minutes v ≤ 999
@@ -134,40 +163,32 @@ module _ (kind : ℕ) (rows w minutes : List ℕ) (rate : ℕ) where
   unfolding chargeAnswer
   charge-refused r e = rw (sym e, chargeAnswer)
 
-  pub charge-accepted : none ≡ firstRefusal tests → owed (nearestCent (product (arcs rows) w minutes rate)) ≡ chargeAnswer kind rows w minutes rate
+  pub charge-accepted : none ≡ firstRefusal tests → cents (centsHalvesUp (product (arcs rows) w minutes rate)) ≡ chargeAnswer kind rows w minutes rate
   unfolding chargeAnswer
   charge-accepted e = rw (sym e, chargeAnswer)
 
+  -- whatever the input, one of the two
+  answered : (Accepts tests × (cents (centsHalvesUp (product (arcs rows) w minutes rate)) ≡ chargeAnswer kind rows w minutes rate))
+      ⊎ ((r : ℕ) × Refuses r tests × (refused r ≡ chargeAnswer kind rows w minutes rate))
+  answered = go (accepts-or-refuses tests)
+    where
+      go : Accepts tests ⊎ ((q : ℕ) × Refuses q tests)
+          → (Accepts tests × (cents (centsHalvesUp (product (arcs rows) w minutes rate)) ≡ chargeAnswer kind rows w minutes rate))
+          ⊎ ((r : ℕ) × Refuses r tests × (refused r ≡ chargeAnswer kind rows w minutes rate))
+      go (inl a) = inl (a, charge-accepted (sym (accepts-none tests a)))
+      go (inr x) = inr (x .0, x .1, charge-refused (x .0) (sym (refuses-first tests (x .0) (x .1))))
+
   pub refused-charge : (r : ℕ) → chargeAnswer kind rows w minutes rate ≡ refused r → Refuses r tests
-  refused-charge r e = go (accepts-or-refuses tests)
-    where
-      go : Accepts tests ⊎ ((q : ℕ) × Refuses q tests) → Refuses r tests
-      go (inl a) = let clash : _≡_ {A = ℕ} 0 1 = cc (charge-accepted (sym (accepts-none tests a))) in absurd (omega arith)
-      go (inr x) =
-          let same : x .0 ≡ r = cc (charge-refused (x .0) (sym (refuses-first tests (x .0) (x .1)))) in
-          subst (λ (q : ℕ). Refuses q tests) same (x .1)
+  refused-charge r e =
+      elim answered [
+        | inl x ↦ let clash : _≡_ {A = ℕ} 0 1 = cc (x .1) in absurd (omega arith)
+        | inr x ↦ let same : x .0 ≡ r = cc (x .2) in subst (λ (q : ℕ). Refuses q tests) same (x .1)
+      ]
 
-  pub owed-charge : (c : ℕ) → chargeAnswer kind rows w minutes rate ≡ owed c
-      → Chargeable kind rows w minutes rate × (c ≡ nearestCent (product (arcs rows) w minutes rate))
-  owed-charge c e = go (accepts-or-refuses tests)
-    where
-      go : Accepts tests ⊎ ((q : ℕ) × Refuses q tests) → Chargeable kind rows w minutes rate × (c ≡ nearestCent (product (arcs rows) w minutes rate))
-      go (inl a) = (chargeable-out a, cc (charge-accepted (sym (accepts-none tests a))))
-      go (inr x) = let clash : _≡_ {A = ℕ} 0 1 = cc (charge-refused (x .0) (sym (refuses-first tests (x .0) (x .1)))) in absurd (omega arith)
-
-  -- ---- what 20's test means
-
-  pub unpassed-fails : Accepts (judgeTests kind rows w) → T (not (isPass verdict)) → Fails (judgeAnswer kind rows w)
-  unfolding isPass
-  unpassed-fails a t = go (judgeAnswer kind rows w) refl (subst (λ (v : Verdict). T (not (isPass v))) (sym (judge-accepted kind rows w a)) t)
-    where
-      go : (v : Verdict) → judgeAnswer kind rows w ≡ v → T (not (isPass v)) → Fails (judgeAnswer kind rows w)
-      go passes e t = absurd t
-      go (fails a b c) e t = (a, b, c, e)
-      go (violation.refused r) e t =
-          let clash : _≡_ {A = ℕ} 0 1 = cc (accepts-none (judgeTests kind rows w) a, refuses-first (judgeTests kind rows w) r (refused-judge kind rows w r e)) in
-          absurd (omega arith)
-
-  pub fails-unpassed : Accepts (judgeTests kind rows w) → Fails (judgeAnswer kind rows w) → T (not (isPass verdict))
-  unfolding isPass
-  fails-unpassed a x = subst (λ (v : Verdict). T (not (isPass v))) (sym (x .3) ∙ judge-accepted kind rows w a) tt
+  pub cents-charge : (c : ℕ) → chargeAnswer kind rows w minutes rate ≡ cents c
+      → Chargeable kind rows w minutes rate × (c ≡ centsHalvesUp (product (arcs rows) w minutes rate))
+  cents-charge c e =
+      elim answered [
+        | inl x ↦ (chargeable-out (x .0), cc (x .1))
+        | inr x ↦ let clash : _≡_ {A = ℕ} 0 1 = cc (x .2) in absurd (omega arith)
+      ]

@@ -14,7 +14,7 @@ use native.Mathlib.Nat.{mul-zero, mul-suc, mul-le-mul-left, div-add-mod, mod-lt}
 use native.Mathlib.Omega.{arith}
 use lib.Dec.{T, eqb, eqb→eq, eqb-refl, not-T, T-not}
 use Rattle.bitset.proofs.Tests.{and-in, and-out, not-not, below-or, three-ways}
-use Rattle.charge.specs.Rounding.{distance, Rule, halvesUp, Rounds, rounded}
+use Rattle.charge.specs.Rounding.{distance, Rule, halvesUp, Rounds, halfway, rounded}
 
 module _ (d : ℕ) (positive : 0 < d) (x : ℕ) where
   -- two multiples of d are d apart, or more
@@ -51,13 +51,30 @@ module _ (d : ℕ) (positive : 0 < d) (x : ℕ) where
   pub rounds-near : (rule : Rule) (q : ℕ) → Rounds rule d x q → distance (d * q) x ≤ d / 2
   rounds-near rule q r = omega (arith, quotient-near, r .nearest quotient)
 
+  -- two different multiples of d that are both at most half of d away are next to each other, and equally near
+  both-near : (p q : ℕ) → p < q → distance (d * p) x ≤ d / 2 → distance (d * q) x ≤ d / 2 → (suc p ≡ q) × (distance (d * p) x ≡ distance (d * q) x)
+  unfolding distance
+  both-near p q l near near′ = (go (below-or (suc p) q), omega (arith, apart p q l))
+    where
+      go : (suc p < q) ⊎ (q ≤ suc p) → suc p ≡ q
+      go (inl h) = absurd (omega (arith, mul-suc d p, apart (suc p) q h))
+      go (inr h) = omega arith
+
   -- ---- the formula rounds
 
+  halfway-out : (q : ℕ) → T (halfway d x q) → 2 * x + d ≡ 2 * (d * q)
+  unfolding halfway
+  halfway-out q t = eqb→eq (2 * x + d) (2 * (d * q)) t
+
+  halfway-in : (q : ℕ) → 2 * x + d ≡ 2 * (d * q) → T (halfway d x q)
+  unfolding halfway
+  halfway-in q e = subst (λ (i : ℕ). T (eqb (2 * x + d) i)) e (eqb-refl (2 * x + d))
+
   module _ (rule : Rule) where
-    -- a half that the rule does not take up
-    half-down : (m : ℕ) → 2 * x + d ≡ 2 * (d * suc m) → (T (rule m) → ⊥) → Rounds rule d x m
+    -- halfway between m and the next one, and the rule rounds down
+    lower-rounds : (m : ℕ) → 2 * x + d ≡ 2 * (d * suc m) → (T (rule m) → ⊥) → Rounds rule d x m
     unfolding distance
-    half-down m half not-up = record {
+    lower-rounds m half not-up = record {
       nearest = near-nearest m (omega (arith, mul-suc d m));
       up = λ p e same.
           let previous : d * m ≡ d * p + d = ap (λ (i : ℕ). d * i) (sym e) ∙ mul-suc d p in
@@ -65,10 +82,10 @@ module _ (d : ℕ) (positive : 0 < d) (x : ℕ) where
       down = λ same t. not-up t;
     }
 
-    -- no half, or one that the rule takes up
-    taken-up : (q : ℕ) → d * q ≤ x + d / 2 → x + d / 2 < d * q + d → ((m : ℕ) → suc m ≡ q → 2 * x + d ≡ 2 * (d * q) → T (rule m)) → Rounds rule d x q
+    -- the quotient, where x / d is not halfway or the rule rounds up
+    upper-rounds : (q : ℕ) → d * q ≤ x + d / 2 → x + d / 2 < d * q + d → ((m : ℕ) → suc m ≡ q → 2 * x + d ≡ 2 * (d * q) → T (rule m)) → Rounds rule d x q
     unfolding distance
-    taken-up q low high half-up = record {
+    upper-rounds q low high half-up = record {
       nearest = near-nearest q (omega arith);
       up = λ p e same.
           let previous : d * q ≡ d * p + d = ap (λ (i : ℕ). d * i) (sym e) ∙ mul-suc d p in
@@ -76,39 +93,29 @@ module _ (d : ℕ) (positive : 0 < d) (x : ℕ) where
       down = λ same t. absurd (omega (arith, mul-suc d q));
     }
 
-    chosen : (q : ℕ) → d * q ≤ x + d / 2 → x + d / 2 < d * q + d → (b : Bool) → b ≡ (not (rule (q - 1)) && eqb (2 * x + d) (2 * (d * q)))
+    chosen : (q : ℕ) → d * q ≤ x + d / 2 → x + d / 2 < d * q + d → (b : Bool) → b ≡ (not (rule (q - 1)) && halfway d x q)
         → Rounds rule d x (cond b (q - 1) q)
     chosen q low high true e =
-        let both = and-out (not (rule (q - 1))) (eqb (2 * x + d) (2 * (d * q))) (subst (λ (b : Bool). T b) e tt) in
-        let half : 2 * x + d ≡ 2 * (d * q) = eqb→eq (2 * x + d) (2 * (d * q)) (both .1) in
+        let both = and-out (not (rule (q - 1))) (halfway d x q) (subst (λ (b : Bool). T b) e tt) in
+        let half = halfway-out q (both .1) in
         let next : suc (q - 1) ≡ q = go (below-or 0 q) half in
-        half-down (q - 1) (half ∙ ap (λ (i : ℕ). 2 * (d * i)) (sym next)) (T-not (rule (q - 1)) (both .0))
+        lower-rounds (q - 1) (half ∙ ap (λ (i : ℕ). 2 * (d * i)) (sym next)) (T-not (rule (q - 1)) (both .0))
       where
         go : (0 < q) ⊎ (q ≤ 0) → 2 * x + d ≡ 2 * (d * q) → suc (q - 1) ≡ q
         go (inl l) half = omega arith
         go (inr l) half = let none : q ≡ 0 = omega arith in absurd (omega (arith, mul-zero d, ap (λ (i : ℕ). d * i) none))
     chosen q low high false e =
-        taken-up q low high
+        upper-rounds q low high
         (λ m s half.
         let last : q - 1 ≡ m = omega arith in
-        subst (λ (i : ℕ). T (rule i)) last
-        (not-not (rule (q - 1)) (not-T (not (rule (q - 1)))
-        (λ t. subst (λ (b : Bool). T b) (sym e) (and-in (not (rule (q - 1))) (eqb (2 * x + d) (2 * (d * q))) t (subst (λ (i : ℕ). T (eqb (2 * x + d) i)) half (eqb-refl (2 * x + d))))))))
+        let never-down : T (not (rule (q - 1))) → ⊥ = λ t. subst (λ (b : Bool). T b) (sym e) (and-in (not (rule (q - 1))) (halfway d x q) t (halfway-in q half)) in
+        subst (λ (i : ℕ). T (rule i)) last (not-not (rule (q - 1)) (not-T (not (rule (q - 1))) never-down)))
 
     pub rounded-rounds : Rounds rule d x (rounded rule d x)
     unfolding rounded quotient
     rounded-rounds = chosen quotient quotient-low quotient-high _ refl
 
     -- ---- only one number does
-
-    -- two different multiples of d that are both at most half of d away are next to each other, and equally near
-    both-near : (p q : ℕ) → p < q → distance (d * p) x ≤ d / 2 → distance (d * q) x ≤ d / 2 → (suc p ≡ q) × (distance (d * p) x ≡ distance (d * q) x)
-    unfolding distance
-    both-near p q l near near′ = (go (below-or (suc p) q), omega (arith, apart p q l))
-      where
-        go : (suc p < q) ⊎ (q ≤ suc p) → suc p ≡ q
-        go (inl h) = absurd (omega (arith, mul-suc d p, apart (suc p) q h))
-        go (inr h) = omega arith
 
     never-both : (p q : ℕ) → p < q → Rounds rule d x p → Rounds rule d x q → ⊥
     never-both p q l of-p of-q =
@@ -129,6 +136,6 @@ module _ (d : ℕ) (positive : 0 < d) (x : ℕ) where
     where
       go : (q < p) ⊎ (p ≤ q) → p ≤ q
       go (inl l) =
-          let next = both-near halvesUp q p l (rounds-near halvesUp q of-q) near in
+          let next = both-near q p l (rounds-near halvesUp q of-q) near in
           absurd (of-q .down (ap (λ (i : ℕ). distance (d * i) x) (next .0) ∙ sym (next .1)) tt)
       go (inr h) = h

@@ -1,12 +1,12 @@
 -- The charge for an ordering: refusals first.
 --   product arc w minutes rate              the minutes of w times the rate in cents an hour: the exact charge, in sixtieths of a cent
---   nearestCent x                           x sixtieths of a cent, rounded to the nearest cent, halves up               [02: K2]
+--   centsHalvesUp x                         x sixtieths of a cent, rounded to the nearest cent, halves up             [02: K2]
 --   largestMinutes, largestProduct          64 points of 999 minutes with a jump to all but the first; at the largest rate
---   malformedMinutes n minutes              the list has not n entries, or one above 999;   Malformed n minutes   the same in words
---   billTests n minutes rate passing        what is refused after judge's tests: numbers and tests in 02's order
+--   malformedMinutes n minutes              the list does not have n entries, or has one above 999;   Malformed n minutes   the same in words
+--   testsAfterJudge n minutes rate passing  what is refused after judge's tests: numbers and tests in 02's order
 --   chargeTests kind rows w minutes rate    all tests: judge's, then these
 --   Chargeable kind rows w minutes rate     what is not refused, condition by condition
---   Bill                                    owed c: so many cents; refused r: the refusal with number r
+--   Bill                                    cents c: the charge; refused r: the refusal with number r
 --   chargeAnswer kind rows w minutes rate   what is answered                                                           [02: K2]
 --   billOf                                  an answer of the code as 02's number and values
 use Prim.Native.Nat.{ℕ, _+_, _*_, _/_, _≤_, _<_}
@@ -28,8 +28,8 @@ use Rattle.charge.specs.declared.Charged.{Charged}
 unfoldable pub product : (ℕ → ℕ → Bool) → List ℕ → List ℕ → ℕ → ℕ
 product arc w minutes rate = minutesOf arc w (length w) minutes * rate
 
-unfoldable pub nearestCent : ℕ → ℕ
-nearestCent x = (x + 30) / 60
+unfoldable pub centsHalvesUp : ℕ → ℕ
+centsHalvesUp x = (x + 30) / 60
 
 abbrev pub largestMinutes : ℕ
 largestMinutes = 64 * 999 + 63 * 7
@@ -37,15 +37,15 @@ largestMinutes = 64 * 999 + 63 * 7
 abbrev pub largestProduct : ℕ
 largestProduct = largestMinutes * 99999
 
--- the whole list is looked at, placed or not
+-- every entry counts, also that of a point that is not placed
 unfoldable pub malformedMinutes : ℕ → List ℕ → Bool
 malformedMinutes n minutes = not (eqb (length minutes) n) || anyBelow (length minutes) (λ v. ltb 999 (at minutes v))
 
 abbrev pub Malformed : ℕ → List ℕ → Type 0
 Malformed n minutes = (length minutes ≡ n → ⊥) ⊎ ((v : ℕ) × (v < length minutes) × (999 < at minutes v))
 
-unfoldable pub billTests : ℕ → List ℕ → ℕ → Bool → List (ℕ × Bool)
-billTests n minutes rate passing =
+unfoldable pub testsAfterJudge : ℕ → List ℕ → ℕ → Bool → List (ℕ × Bool)
+testsAfterJudge n minutes rate passing =
     (18, malformedMinutes n minutes)
     ∷ (19, ltb 99999 rate)
     ∷ (20, not passing)
@@ -54,7 +54,7 @@ billTests n minutes rate passing =
 unfoldable pub chargeTests : ℕ → List ℕ → List ℕ → List ℕ → ℕ → List (ℕ × Bool)
 chargeTests kind rows w minutes rate =
     judgeTests kind rows w
-    ++ billTests (length rows) minutes rate (isPass (judge (searchOf kind) (arcs rows) (length rows) w (length w)))
+    ++ testsAfterJudge (length rows) minutes rate (isPass (judge (searchOf kind) (arcs rows) (length rows) w (length w)))
 
 pub record Chargeable (kind : ℕ) (rows w minutes : List ℕ) (rate : ℕ) : Type 0 where
   -- judge refuses nothing
@@ -62,22 +62,22 @@ pub record Chargeable (kind : ℕ) (rows w minutes : List ℕ) (rate : ℕ) : Ty
   -- the list of minutes has n entries, none above 999
   pub listed : length minutes ≡ length rows
   pub each : (v : ℕ) → v < length minutes → at minutes v ≤ 999
-  -- the rate is no higher than it may be
+  -- the rate is at most 99,999 cents an hour
   pub rated : rate ≤ 99999
   -- the walk passes the search
   pub passing : judge (searchOf kind) (arcs rows) (length rows) w (length w) ≡ passes
 
 pub data Bill : Type 0 where
-  owed : ℕ → Bill
+  cents : ℕ → Bill
   refused : ℕ → Bill
 
 unfoldable pub chargeAnswer : ℕ → List ℕ → List ℕ → List ℕ → ℕ → Bill
 chargeAnswer kind rows w minutes rate =
     elim (firstRefusal (chargeTests kind rows w minutes rate)) [
-      | none ↦ owed (nearestCent (product (arcs rows) w minutes rate))
+      | none ↦ cents (centsHalvesUp (product (arcs rows) w minutes rate))
       | some r ↦ refused r
     ]
 
 unfoldable pub billOf : Charged → Bill
-billOf (Charged.Cents cents) = owed cents
+billOf (Charged.Cents c) = cents c
 billOf (Charged.Refused r) = refused (number r)

@@ -1,5 +1,5 @@
 -- The minutes of an ordering.
---   sumBelow n f                 f at the numbers below n, added up
+--   sumBelow n f                 f 0 + f 1 + .. + f (n - 1)
 --   jump arc w p                 position p is not the first, and the vertex placed directly before does not lead to the one at p
 --   jumpMinutes arc w p          7 for a jump, else 0
 --   minutesOf arc w k minutes    the minutes of the vertices at the first k positions, and 7 for each jump to one of these       [02: K2, minutes]

@@ -1,9 +1,10 @@
 -- Rounding x / d to a whole number.
 --   distance a b           how far two numbers are apart
---   Rule                   what becomes of a half: of p and p + 1, equally near, p + 1 is taken where the rule holds at p, else p
---   halvesUp               p + 1 always                                                                          [02: K2, halves up]
---   Rounds rule d x q      q is x / d, rounded: of all multiples of d, d · q is nearest to x; of two equally near ones it is the one that the rule takes
---   rounded rule d x       the formula: the quotient after half of d is added, and one less for a half that the rule does not take up
+--   Rule                   the rule for halves: where x / d is halfway between p and p + 1, it is rounded up if the rule holds at p, else down
+--   halvesUp               up always                                                                             [02: K2, halves up]
+--   Rounds rule d x q      q is x / d, rounded: no multiple of d is nearer to x than d · q, and of two equally near ones it is the rule's
+--   halfway d x q          x / d is halfway between q - 1 and q; all is doubled, to stay whole
+--   rounded rule d x       the formula: (x + half of d) / d; 1 less where x / d is halfway and the rule rounds down
 use Prim.Native.Nat.{ℕ, suc, _+_, _-_, _*_, _/_, _≤_}
 use mathlib.Core.Path.{_≡_}
 use mathlib.Core.Bool.{Bool, true, cond, not, _&&_}
@@ -21,12 +22,15 @@ halvesUp p = true
 pub record Rounds (rule : Rule) (d x q : ℕ) : Type 0 where
   -- no other multiple of d is nearer to x
   pub nearest : (p : ℕ) → distance (d * q) x ≤ distance (d * p) x
-  -- where the one before is as near, the rule takes this one
+  -- where the one before is as near, the rule rounds up
   pub up : (p : ℕ) → suc p ≡ q → distance (d * p) x ≡ distance (d * q) x → T (rule p)
-  -- where the one after is as near, the rule does not take that one
+  -- where the one after is as near, the rule rounds down
   pub down : distance (d * suc q) x ≡ distance (d * q) x → T (rule q) → ⊥
+
+unfoldable pub halfway : ℕ → ℕ → ℕ → Bool
+halfway d x q = eqb (2 * x + d) (2 * (d * q))
 
 unfoldable pub rounded : Rule → ℕ → ℕ → ℕ
 rounded rule d x =
     let q = (x + d / 2) / d in
-    cond (not (rule (q - 1)) && eqb (2 * x + d) (2 * (d * q))) (q - 1) q
+    cond (not (rule (q - 1)) && halfway d x q) (q - 1) q

@@ -8,12 +8,12 @@ use searches::Refusal;
 use steps::lookup::row_of;
 use steps::lookup::vertex_at;
 ghost use mathlib.Core.Path.{_≡_};
-ghost use Prim.Native.Nat.{_≤_, _<_};
+ghost use Prim.Native.Nat.{ℕ, _≤_, _<_};
 ghost use lib.ListN.{length};
 ghost use Rattle.searches.specs.Ordering.{arcs, at};
 ghost use Rattle.searches.specs.Answer.{firstRefusal, refusalOf};
 ghost use Rattle.charge.specs.Minutes.{jumpMinutes, minutesOf};
-ghost use Rattle.charge.specs.Charge.{nearestCent, largestProduct, malformedMinutes, billTests, chargeTests, chargeAnswer, billOf};
+ghost use Rattle.charge.specs.Charge.{centsHalvesUp, largestProduct, malformedMinutes, testsAfterJudge, chargeTests, chargeAnswer, billOf};
 
 // What charging for an ordering answers.
 pub enum Charged {
@@ -23,7 +23,7 @@ pub enum Charged {
 
 // The charge, in cents, for an ordering that passes the search `kind`. The minutes of its vertices are those in `minutes`, entry v for vertex v, and
 // 7 more for each vertex after the first to which the one placed directly before it does not lead. Minutes times `rate`, in cents an hour, divided by
-// 60, is rounded to the nearest cent, halves up. Any other ordering, list or rate is refused (1 to 6, 8, 9, 18, 19, 20). Alters nothing.
+// 60, is rounded to the nearest cent, halves up. Everything else is refused (1 to 6, 8, 9, 18, 19, 20). Alters nothing.
 pub fn charge(kind: Kind, rows: &[u64], ordering: &[u8], minutes: &[u16], rate: u64) -> Charged
     ensures { λ r. ⌜ billOf r ≡ chargeAnswer (kind .0) (now (rows .entry)) (now (ordering .entry)) (now (minutes .entry)) rate ⌝ }
 {
@@ -32,7 +32,7 @@ pub fn charge(kind: Kind, rows: &[u64], ordering: &[u8], minutes: &[u16], rate: 
         return Charged::Refused(refusal);
     }
     let spent = minutes_of(rows, ordering, minutes);
-    Charged::Cents(nearest_cent(spent * rate))
+    Charged::Cents(cents_halves_up(spent * rate))
 }
 
 // The first of refusals 1 to 6, 8, 9, 18, 19 and 20 that applies, else `Done`.
@@ -42,15 +42,15 @@ fn charge_refusal(kind: Kind, rows: &[u64], ordering: &[u8], minutes: &[u16], ra
     let n = rows.len();
     let judged = engine::judge(kind, rows, ordering);
     match judged {
-        Judgement::Passes => bill_refusal(n, minutes, rate, true),
-        Judgement::Fails(_) => bill_refusal(n, minutes, rate, false),
+        Judgement::Passes => refusal_after_judge(n, minutes, rate, true),
+        Judgement::Fails(_) => refusal_after_judge(n, minutes, rate, false),
         Judgement::Refused(refusal) => Outcome::Refused(refusal),
     }
 }
 
 // The first of refusals 18, 19 and 20 that applies to an ordering of a graph of `n` vertices that judge did not refuse, else `Done`.
-fn bill_refusal(n: usize, minutes: &[u16], rate: u64, passing: bool) -> Outcome
-    ensures { λ r. ⌜ refusalOf r ≡ firstRefusal (billTests n (now (minutes .entry)) rate passing) ⌝ }
+fn refusal_after_judge(n: usize, minutes: &[u16], rate: u64, passing: bool) -> Outcome
+    ensures { λ r. ⌜ refusalOf r ≡ firstRefusal (testsAfterJudge n (now (minutes .entry)) rate passing) ⌝ }
 {
     let malformed = malformed_minutes(n, minutes);
     let above = 99999 < rate;
@@ -66,7 +66,7 @@ fn bill_refusal(n: usize, minutes: &[u16], rate: u64, passing: bool) -> Outcome
     Outcome::Done
 }
 
-// Whether the list has not `n` entries, or one above 999.
+// Whether the list does not have `n` entries, or has one above 999.
 fn malformed_minutes(n: usize, minutes: &[u16]) -> bool
     ensures { λ r. ⌜ r ≡ malformedMinutes n (now (minutes .entry)) ⌝ }
 {
@@ -85,6 +85,7 @@ fn malformed_minutes(n: usize, minutes: &[u16]) -> bool
 // The minutes of an ordering: of each vertex its own, and 7 for each jump.
 fn minutes_of(rows: &[u64], ordering: &[u8], minutes: &[u16]) -> u64
     requires { ⌜ length (now ordering) ≤ 64 ⌝ }
+    requires { ⌜ ((v : ℕ) → at (now minutes) v ≤ 999) ⌝ }
     ensures { λ r. ⌜ r ≡ minutesOf (arcs (now (rows .entry))) (now (ordering .entry)) (length (now (ordering .entry))) (now (minutes .entry)) ⌝ }
 {
     let mut total = 0u64;
@@ -100,8 +101,7 @@ fn minutes_of(rows: &[u64], ordering: &[u8], minutes: &[u16]) -> u64
 
 // The minutes of vertex `v`; 0 behind the last entry.
 fn minutes_at(minutes: &[u16], v: usize) -> u64
-    ensures entry { λ r. ⌜ r ≡ at (now (minutes .entry)) v ⌝ }
-    ensures width { λ r. ⌜ r < 65536 ⌝ }
+    ensures { λ r. ⌜ r ≡ at (now (minutes .entry)) v ⌝ }
 {
     if v < minutes.len() {
         minutes[v] as u64
@@ -129,9 +129,9 @@ fn jump_minutes(rows: &[u64], ordering: &[u8], position: Position) -> u64
 }
 
 // The exact product, in sixtieths of a cent, rounded to the nearest cent, halves up. The largest product takes 33 bits.
-fn nearest_cent(product: u64) -> u64
+fn cents_halves_up(product: u64) -> u64
     requires { ⌜ product ≤ largestProduct ⌝ }
-    ensures { λ r. ⌜ r ≡ nearestCent product ⌝ }
+    ensures { λ r. ⌜ r ≡ centsHalvesUp product ⌝ }
 {
     (product + 30) / 60
 }

@@ -1,5 +1,5 @@
 // Walks charged from a fixed list of calls: for each kind on plans in one piece and in two, at several rates; halves of a cent; refused calls, each
-// with everything wrong that is tried later; the largest charge there is.
+// with everything wrong that is tried later; the largest charge there is; a plan without points.
 // A line for each call: the kind, how many points, places and minutes there are, the rate, the answer (0, or a refusal's number) and the cents.
 use charge::Charged;
 use searches::Kind;
@@ -19,6 +19,9 @@ const IN_TURN: [u8; 4] = [0, 1, 2, 3];
 const TURNED: [u8; 4] = [0, 1, 3, 2];
 
 const RESTARTED: [u8; 5] = [4, 3, 1, 0, 2];
+
+// On the ring this fails every search, and its first point alone passes.
+const FAILING: [u8; 2] = [0, 2];
 
 const MINUTES: [u16; 4] = [10, 20, 5, 30];
 
@@ -135,6 +138,7 @@ fn played(kind: u8) {
     let pieces = PIECES;
     let in_turn = IN_TURN;
     let turned = TURNED;
+    let failing = FAILING;
     let restarted = RESTARTED;
     let minutes = MINUTES;
     let long = LONG;
@@ -143,6 +147,7 @@ fn played(kind: u8) {
     rated(kind, &ring, &in_turn, &minutes);
     rated(kind, &ring, &turned, &minutes);
     rated(kind, &ring, &turned[..3], &minutes);
+    rated(kind, &ring, &failing, &minutes);
     rated(kind, &pieces, &restarted, &long);
     rated(kind, &pieces, &in_turn[..1], &long);
     rated(kind, &pieces, &in_turn[..0], &long);
@@ -156,7 +161,7 @@ fn single(minutes: u16, rate: u64) {
     play(0, &rows, &ordering, &list, rate);
 }
 
-// Halves of a cent, and what is a sixtieth less or more.
+// Halves of a cent, products just below and just above one, and the longest point at the highest rate.
 fn halves() {
     single(1, 29);
     single(1, 30);
@@ -168,11 +173,9 @@ fn halves() {
     single(1, 90);
     single(999, 30);
     single(999, 99999);
-    single(1000, 30);
-    single(65535, 30);
 }
 
-// A walk on the ring with another first row, a list of minutes that is too short and too high, and a rate that is too high.
+// A walk on the ring with another first row, with a list of minutes that is too short and has entries above 999, and with a rate that is too high.
 fn wrong(first_row: u64, ordering: &[u8]) {
     let mut rows = RING;
     rows[0] = first_row;
@@ -183,11 +186,12 @@ fn wrong(first_row: u64, ordering: &[u8]) {
 // Refused by judge's own tests: each call is given everything wrong that is tried after what it is refused for.
 fn refused_walks() {
     let crowd = [1u64; 65];
+    let crowded = [99u8; 66];
     let few = [1000u16; 3];
     let long = [9u8; 5];
     let twice = [0u8, 1u8, 0u8];
-    play(7, &crowd, &long, &few, 100000);
-    play(6, &crowd, &long, &few, 100000);
+    play(7, &crowd, &crowded, &few, 100000);
+    play(6, &crowd, &crowded, &few, 100000);
     wrong(19, &long);
     wrong(3, &long);
     wrong(2, &long);
@@ -196,32 +200,30 @@ fn refused_walks() {
     wrong(10, &twice);
 }
 
-// A walk of two points on the ring that fails, or its first point alone, which passes.
-fn billed(k: usize, minutes: &[u16], rate: u64) {
+fn billed(ordering: &[u8], minutes: &[u16], rate: u64) {
     let ring = RING;
-    let failing = [0u8, 2u8];
-    if k == 1 {
-        play(6, &ring, &failing[..1], minutes, rate);
-    } else {
-        play(6, &ring, &failing, minutes, rate);
-    }
+    play(6, &ring, ordering, minutes, rate);
 }
 
-// Refused with 18, 19 and 20 likewise, and then not refused.
+// Refused with 18, 19 and 20 likewise: for a list that is too short, too long, or has an entry above 999, for the rate, and for the walk. Then with
+// nothing wrong but an entry of a point that is not placed, and with nothing wrong at all.
 fn refused_bills() {
-    let few = [1000u16; 3];
+    let failing = FAILING;
     let many = LONG;
     let mut above = MINUTES;
     above[3] = 1000;
+    let mut far_above = MINUTES;
+    far_above[0] = 65535;
     let minutes = MINUTES;
-    billed(2, &few, 100000);
-    billed(2, &many, 100000);
-    billed(2, &above, 100000);
-    billed(1, &above, 99999);
-    billed(2, &minutes, 100000);
-    billed(2, &minutes, 18446744073709551615);
-    billed(2, &minutes, 99999);
-    billed(1, &minutes, 99999);
+    billed(&failing, &minutes[..3], 100000);
+    billed(&failing, &many, 100000);
+    billed(&failing, &above, 100000);
+    billed(&failing, &far_above, 100000);
+    billed(&failing, &minutes, 100000);
+    billed(&failing, &minutes, 18446744073709551615);
+    billed(&failing, &minutes, 99999);
+    billed(&failing[..1], &above, 99999);
+    billed(&failing[..1], &minutes, 99999);
 }
 
 // 64 points by themselves, all of them walked: without a link all but the first are jumped to.

@@ -6,7 +6,7 @@
 
 use std::cmp::Reverse;
 
-use super::{bytes, first_of, first_violation, judge_refusal, Graph, Kind, Vertex};
+use super::{begins_run, bytes, first_of, judge_refusal, Graph, Kind, Vertex};
 
 /// Each placed point's minutes, plus 7 for each placed point after the first that is not linked to the one placed
 /// directly before it.
@@ -39,7 +39,7 @@ pub fn charge(
             (18, &|| minutes.len() != graph.size()),
             (18, &|| minutes.iter().any(|&entry| entry > 999)),
             (19, &|| rate > 99_999),
-            (20, &|| first_violation(kind, &graph, walk).is_some()),
+            (20, &|| !begins_run(kind, &graph, walk)),
         ])
     };
     match judge_refusal(kind, &plan, walk).or_else(bill_refusal) {

@@ -9,8 +9,8 @@ use borrow.Author.Needs.{needs}
 use Rattle.searches.specs.Ordering.{arcs}
 use Rattle.searches.specs.Answer.{firstRefusal, refusalOf}
 use Rattle.searches.proofs.Refusals.{none-accepts}
-use Rattle.charge.specs.Charge.{product, nearestCent, largestProduct, chargeTests, Chargeable, owed, billOf}
-use Rattle.charge.proofs.Charging.{chargeable-out, length-bounded, product-bounded, charge-refused, charge-accepted}
+use Rattle.charge.specs.Charge.{product, centsHalvesUp, largestProduct, chargeTests, Chargeable, cents, billOf}
+use Rattle.charge.proofs.Charging.{chargeable-out, length-bounded, entry-bounded, product-bounded, charge-refused, charge-accepted}
 use Rattle.charge.proofs.charge.Statement.{statement}
 use Rattle.charge.proofs.charge.Tie as tie
 
@@ -45,8 +45,10 @@ able c =
 
 minutes-of-requires : tie.Need-minutes-of-requires
 minutes-of-requires c κs =
-    let a = c .before .before .before .before .before .before .args in
-    length-bounded (a .kind .0) (now (a .rows)) (now (a .ordering)) (now (a .minutes)) (a .rate) (able c)
+    let a = c .before .before .before .before .before .before .args in (
+      length-bounded (a .kind .0) (now (a .rows)) (now (a .ordering)) (now (a .minutes)) (a .rate) (able c),
+      entry-bounded (a .kind .0) (now (a .rows)) (now (a .ordering)) (now (a .minutes)) (a .rate) (able c),
+    )
 
 -- what is multiplied is the exact product
 exact : (c : tie.After-minutes-of)
@@ -60,18 +62,18 @@ bounded c =
     let a = c .before .before .before .before .before .before .before .args in
     omega (arith, exact c, product-bounded (a .kind .0) (now (a .rows)) (now (a .ordering)) (now (a .minutes)) (a .rate) (able (c .before)))
 
-mul-nearest-cent : tie.Need-mul-nearest-cent
-mul-nearest-cent c = omega (arith, bounded c)
+mul-cents-halves-up : tie.Need-mul-cents-halves-up
+mul-cents-halves-up c = omega (arith, bounded c)
 
-nearest-cent-requires : tie.Need-nearest-cent-requires
-nearest-cent-requires c κs = bounded c
+cents-halves-up-requires : tie.Need-cents-halves-up-requires
+cents-halves-up-requires c κs = bounded c
 
 returns-2 : tie.Need-returns-2
 unfolding billOf
 returns-2 c =
     let told = c .before .before in
     let a = told .before .before .before .before .before .before .args in
-    ap (λ (cents : ℕ). owed cents) (c .nearest-cent .ensures ∙ ap (λ (x : ℕ). nearestCent x) (exact (c .before)))
+    ap (λ (q : ℕ). cents q) (c .cents-halves-up .ensures ∙ ap (λ (x : ℕ). centsHalvesUp x) (exact (c .before)))
     ∙ charge-accepted (a .kind .0) (now (a .rows)) (now (a .ordering)) (now (a .minutes)) (a .rate) (accepted told)
 
 pub charge-spec : {M : Type 1} → statement M
@@ -83,6 +85,6 @@ charge-spec =
     returns
     enum-told
     minutes-of-requires
-    mul-nearest-cent
-    nearest-cent-requires
+    mul-cents-halves-up
+    cents-halves-up-requires
     returns-2)

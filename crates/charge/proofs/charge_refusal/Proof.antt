@@ -17,14 +17,14 @@ judge-requires c κs = search needs
 enum-told : tie.Need-enum-told
 enum-told c = search needs
 
-bill-refusal-requires : tie.Need-bill-refusal-requires
-bill-refusal-requires c κs = search needs
+refusal-after-judge-requires : tie.Need-refusal-after-judge-requires
+refusal-after-judge-requires c κs = search needs
 
 enum-told-2 : tie.Need-enum-told-2
 enum-told-2 c = search needs
 
-bill-refusal-requires-2 : tie.Need-bill-refusal-requires-2
-bill-refusal-requires-2 c κs = search needs
+refusal-after-judge-requires-2 : tie.Need-refusal-after-judge-requires-2
+refusal-after-judge-requires-2 c κs = search needs
 
 enum-known-judged : tie.Need-enum-known-judged
 enum-known-judged c = search needs
@@ -33,7 +33,7 @@ returns : tie.Need-returns
 unfolding verdictOf isPass
 returns c =
     let a = c .before .before .before .before .before .before .before .args in
-    c .bill-refusal .ensures
+    c .refusal-after-judge .ensures
     ∙ judged-decided (a .kind .0) (now (a .rows)) (now (a .ordering)) (now (a .minutes)) (a .rate) {v = passes}
     (sym (ap verdictOf (c .before .enum-told .given .1)) ∙ c .before .before .before .judge .ensures)
     (λ r e. let clash : _≡_ {A = ℕ} 0 1 = cc in omega arith)
@@ -42,7 +42,7 @@ returns-2 : tie.Need-returns-2
 unfolding verdictOf isPass
 returns-2 c =
     let a = c .before .before .before .before .before .before .before .args in
-    c .bill-refusal2 .ensures
+    c .refusal-after-judge2 .ensures
     ∙ judged-decided (a .kind .0) (now (a .rows)) (now (a .ordering)) (now (a .minutes)) (a .rate) {v = fails _ _ _}
     (sym (ap verdictOf (c .before .enum-told2 .given .1)) ∙ c .before .before .before .judge .ensures)
     (λ r e. let clash : _≡_ {A = ℕ} 0 1 = cc in omega arith)
@@ -60,9 +60,9 @@ charge-refusal-spec =
     (tie.spec
     judge-requires
     enum-told
-    bill-refusal-requires
+    refusal-after-judge-requires
     enum-told-2
-    bill-refusal-requires-2
+    refusal-after-judge-requires-2
     enum-known-judged
     returns
     returns-2

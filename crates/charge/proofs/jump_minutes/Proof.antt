@@ -1,4 +1,4 @@
--- `charge::jump_minutes` meets its contract: none for the first position, and for a later one unless it is led to.
+-- `charge::jump_minutes` meets its contract: 0 for the first position; 7 for a later one, unless the vertex before leads to it.
 -- Assumes nothing.
 use mathlib.Core.Path.{_≡_, sym, _∙_}
 use denote.Ref.{now}

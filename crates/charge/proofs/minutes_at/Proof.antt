@@ -18,10 +18,10 @@ cast-result : tie.Need-cast-result
 cast-result c = omega (arith, c .shared-slice-known .given (c .before .before .args .v))
 
 returns : tie.Need-returns
-returns c = (refl, omega (arith, c .shared-slice-known .given (c .before .before .args .v)))
+returns c = refl
 
 returns-2 : tie.Need-returns-2
-returns-2 c = (sym (List·getD-eq-default (now (c .before .args .minutes)) 0 (omega arith)), omega arith)
+returns-2 c = sym (List·getD-eq-default (now (c .before .args .minutes)) 0 (omega arith))
 
 pub minutes-at-spec : {M : Type 1} → statement M
 minutes-at-spec = tie.close (tie.spec mul-result shared-slice-read-result cast-result returns returns-2)

@@ -1,12 +1,12 @@
 -- `charge::minutes_of` meets its contract: each turn adds what its position comes to.
 -- Assumes nothing.
 use mathlib.Core.Path.{_∙_, ap}
-use Prim.Native.Nat.{ℕ, _-_}
+use Prim.Native.Nat.{ℕ, _+_, _-_, _≤_}
 use denote.Ref.{now}
 use native.Mathlib.Omega.{arith}
 use borrow.Author.Needs.{needs}
 use Rattle.searches.specs.Ordering.{arcs, at}
-use Rattle.charge.proofs.Adding.{Added, jump-few, added-start, added-more, added-all}
+use Rattle.charge.proofs.Adding.{Added, added-start, added-more, added-all, added-bounded}
 use Rattle.charge.proofs.minutes_of.Statement.{statement}
 use Rattle.charge.proofs.minutes_of.Tie as tie
 
@@ -31,14 +31,29 @@ minutes-at-requires c κs = search needs
 jump-minutes-requires : tie.Need-jump-minutes-requires Inv-loop μ-loop
 jump-minutes-requires c κs = omega arith
 
-add-total : tie.Need-add-total Inv-loop μ-loop
-add-total c = omega arith
-
-add-total-2 : tie.Need-add-total-2 Inv-loop μ-loop
-add-total-2 c =
+-- the total after one position more
+added : (c : tie.After-jump-minutes Inv-loop μ-loop)
+    → let turn = c .before .before .before .before in
+    let a = turn .before .before .before .before .before .args in
+    Added (arcs (now (a .rows))) (now (a .ordering)) (now (a .minutes)) (turn .before .loop .p + 1)
+    (turn .before .loop .total + c .before .minutes-at .result + c .jump-minutes .result)
+added c =
     let turn = c .before .before .before .before in
     let a = turn .before .before .before .before .before .args in
-    omega (arith, jump-few (arcs (now (a .rows))) (now (a .ordering)) (turn .before .loop .p), c .jump-minutes .ensures)
+    added-more _ _ _ (turn .before .loop .inv) (turn .loop-test .taken)
+    (c .before .minutes-at .ensures ∙ ap (λ (v : ℕ). at (now (a .minutes)) v) (c .before .before .before .vertex-at .ensures)) (c .jump-minutes .ensures)
+
+bounded : (c : tie.After-jump-minutes Inv-loop μ-loop)
+    → c .before .before .before .before .before .loop .total + c .before .minutes-at .result + c .jump-minutes .result ≤ 64384
+bounded c =
+    let s = c .before .before .before .before .before .before .before .before .before in
+    omega (arith, s .pre .0, added-bounded (arcs (now (s .args .rows))) (now (s .args .ordering)) (now (s .args .minutes)) (s .pre .1) (added c))
+
+add-total : tie.Need-add-total Inv-loop μ-loop
+add-total c = omega (arith, bounded c)
+
+add-total-2 : tie.Need-add-total-2 Inv-loop μ-loop
+add-total-2 c = omega (arith, bounded c)
 
 add-p : tie.Need-add-p Inv-loop μ-loop
 add-p c = omega arith
@@ -47,12 +62,7 @@ loop-less : tie.Need-loop-less Inv-loop μ-loop
 loop-less c = omega arith
 
 loop-again : tie.Need-loop-again Inv-loop μ-loop
-loop-again c =
-    let turn = c .before .before .before .before in
-    let a = turn .before .before .before .before .before .args in
-    let own = c .before .minutes-at in
-    added-more _ _ _ (turn .before .loop .inv) (turn .loop-test .taken) (own .ensures .0 ∙ ap (λ (v : ℕ). at (now (a .minutes)) v) (c .before .before .before .vertex-at .ensures))
-    (own .ensures .1) (c .jump-minutes .ensures)
+loop-again c = added c
 
 returns : tie.Need-returns Inv-loop μ-loop
 returns c = added-all _ _ _ (c .before .loop .inv) (c .loop-test .left)

@@ -5,7 +5,7 @@ use std::fmt::Write;
 use outside::definition::charge::charge;
 use outside::definition::KINDS;
 
-use crate::printed::Lines;
+use crate::printed;
 
 const TREE: [u64; 4] = [6, 9, 1, 2];
 const RING: [u64; 4] = [10, 5, 10, 5];
@@ -13,13 +13,14 @@ const PIECES: [u64; 5] = [6, 13, 3, 2, 0];
 const IN_TURN: [u8; 4] = [0, 1, 2, 3];
 const TURNED: [u8; 4] = [0, 1, 3, 2];
 const RESTARTED: [u8; 5] = [4, 3, 1, 0, 2];
+const FAILING: [u8; 2] = [0, 2];
 const MINUTES: [u16; 4] = [10, 20, 5, 30];
 const LONG: [u16; 5] = [999, 0, 1, 998, 7];
 
 const RATES: [u64; 7] = [0, 29, 30, 31, 4530, 99_999, 100_000];
 
 /// Minutes of a single point, and a rate.
-const SINGLE: [(u16, u64); 12] = [
+const SINGLE: [(u16, u64); 10] = [
     (1, 29),
     (1, 30),
     (1, 31),
@@ -30,9 +31,13 @@ const SINGLE: [(u16, u64); 12] = [
     (1, 90),
     (999, 30),
     (999, 99_999),
-    (1000, 30),
-    (65535, 30),
 ];
+
+/// The lines that are expected, and how many calls they show.
+struct Lines {
+    text: String,
+    calls: u64,
+}
 
 impl Lines {
     fn charge(&mut self, kind: u8, rows: &[u64], walk: &[u8], minutes: &[u16], rate: u64) {
@@ -58,30 +63,36 @@ impl Lines {
         self.rated(kind, &RING, &IN_TURN, &MINUTES);
         self.rated(kind, &RING, &TURNED, &MINUTES);
         self.rated(kind, &RING, &TURNED[..3], &MINUTES);
+        self.rated(kind, &RING, &FAILING, &MINUTES);
         self.rated(kind, &PIECES, &RESTARTED, &LONG);
         self.rated(kind, &PIECES, &IN_TURN[..1], &LONG);
         self.rated(kind, &PIECES, &[], &LONG);
     }
 
-    fn refusals(&mut self) {
-        let failing = [0, 2];
-        let above = [10, 20, 5, 1000];
+    fn refused_walks(&mut self) {
         let few = [1000; 3];
-        self.charge(7, &[1; 65], &[9; 5], &few, 100_000);
-        self.charge(6, &[1; 65], &[9; 5], &few, 100_000);
+        self.charge(7, &[1; 65], &[99; 66], &few, 100_000);
+        self.charge(6, &[1; 65], &[99; 66], &few, 100_000);
         for first_row in [19, 3, 2] {
             self.charge(6, &[first_row, 5, 10, 5], &[9; 5], &few, 100_000);
         }
-        for walk in [&[9; 5][..], &[9; 2], &[0, 1, 0], &failing] {
+        for walk in [&[9; 5][..], &[9; 2], &[0, 1, 0]] {
             self.charge(6, &RING, walk, &few, 100_000);
         }
-        self.charge(6, &RING, &failing, &LONG, 100_000);
-        self.charge(6, &RING, &failing, &above, 100_000);
-        self.charge(6, &RING, &[0], &above, 99_999);
-        for rate in [100_000, u64::MAX, 99_999] {
-            self.charge(6, &RING, &failing, &MINUTES, rate);
+    }
+
+    fn refused_bills(&mut self) {
+        let above = [10, 20, 5, 1000];
+        let far_above = [65535, 20, 5, 30];
+        for minutes in [&MINUTES[..3], &LONG, &above, &far_above] {
+            self.charge(6, &RING, &FAILING, minutes, 100_000);
         }
-        self.charge(6, &RING, &[0], &MINUTES, 99_999);
+        for rate in [100_000, u64::MAX, 99_999] {
+            self.charge(6, &RING, &FAILING, &MINUTES, rate);
+        }
+        for minutes in [above, MINUTES] {
+            self.charge(6, &RING, &FAILING[..1], &minutes, 99_999);
+        }
     }
 
     fn largest(&mut self, kind: u8) {
@@ -91,18 +102,19 @@ impl Lines {
 }
 
 pub fn compare() -> u64 {
-    let mut lines = Lines::default();
+    let mut lines = Lines { text: String::new(), calls: 0 };
     for kind in KINDS {
         lines.each_kind(kind);
     }
     for (minutes, rate) in SINGLE {
         lines.charge(0, &[0], &[0], &[minutes], rate);
     }
-    lines.refusals();
+    lines.refused_walks();
+    lines.refused_bills();
     for kind in KINDS {
         lines.largest(kind);
     }
     lines.rated(0, &[], &[], &[]);
     lines.rated(6, &[], &[], &[]);
-    lines.compare("h, charged walks", "charged_walks")
+    printed::compare("h, charged walks", "charged_walks", &lines.text, lines.calls)
 }

@@ -5,7 +5,7 @@ use std::fmt::Write;
 use outside::definition::open_walk::OpenWalk;
 use outside::definition::KINDS;
 
-use crate::printed::Lines;
+use crate::printed;
 
 const RING: [u64; 4] = [10, 5, 10, 5];
 const PIECES: [u64; 5] = [6, 13, 3, 2, 0];
@@ -30,6 +30,12 @@ const MADE: [(usize, usize, u64, u64, u8, u8, u8); 13] = [
     (4, 1, 10, 0, 1, 3, 0),
     (4, 1, 10, 0, 1, 0, 3),
 ];
+
+/// The lines that are expected, and how many calls they show.
+struct Lines {
+    text: String,
+    calls: u64,
+}
 
 impl Lines {
     fn show(&mut self, walk: &OpenWalk) {
@@ -81,7 +87,7 @@ fn with_first_row(row: u64) -> [u64; 4] {
 }
 
 pub fn compare() -> u64 {
-    let mut lines = Lines::default();
+    let mut lines = Lines { text: String::new(), calls: 0 };
     for kind in KINDS {
         lines.play(kind, &RING);
         lines.play(kind, &PIECES);
@@ -93,5 +99,5 @@ pub fn compare() -> u64 {
     lines.refused(1, &with_first_row(26));
     lines.refused(2, &with_first_row(11));
     lines.refused(3, &with_first_row(2));
-    lines.compare("e, open walks", "open_walks")
+    printed::compare("e, open walks", "open_walks", &lines.text, lines.calls)
 }
