@@ -3,7 +3,7 @@
 --   unpassed-fails, fails-unpassed           what 20's test means;   fails-accepts   what fails is not refused
 --   judged-refused, judged-decided           what judge's verdict leaves of the tests: its refusal, or those after it
 --   chargeable-in, chargeable-out            nothing is refused exactly where every condition holds
---   length-bounded, charged-minutes-bounded, product-bounded   how many points, minutes and sixtieths of a cent there can then be
+--   length-bounded, entry-bounded, charged-minutes-bounded, product-bounded   how many positions, minutes and sixtieths of a cent there can then be
 --   charge-refused, charge-accepted          the answer from the tests;   refused-charge, cents-charge   the tests from the answer
 -- Assumes nothing.
 use mathlib.Core.Path.{_≡_, refl, sym, ap, _∙_, subst}

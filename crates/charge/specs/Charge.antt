@@ -1,4 +1,4 @@
--- The charge for an ordering: refusals first.
+-- The charge for an ordering: the exact product, the formula, what is refused, and the answer for every input.
 --   product arc w minutes rate              the minutes of w times the rate in cents an hour: the exact charge, in sixtieths of a cent
 --   centsHalvesUp x                         x sixtieths of a cent, rounded to the nearest cent, halves up             [02: K2]
 --   largestMinutes, largestProduct          64 points of 999 minutes with a jump to all but the first; at the largest rate
