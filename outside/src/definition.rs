@@ -1,4 +1,4 @@
-//! The definitions of 01, and of MCS from 02, computed as they read, by trying everything.
+//! The definitions of 01, and of MCS and the charge from 02, computed as they read, by trying everything.
 //!
 //!   Graph                       a plan: one row of 64 bits for each point          [01: plan]
 //!   linked u v                  bit v of row u is set                              [01: linked]

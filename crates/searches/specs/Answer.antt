@@ -6,7 +6,7 @@
 --   Accepts tests, Refuses r tests       no test holds; the first test that holds has number r
 --   judgeAnswer, openAnswer, carryOnAnswer   what is answered                                               [01: the calls]
 --   carryOnOutput kind rows t out k      what the output list then holds
---   number, verdictOf, refusalOf         a refusal, a judgement and an outcome of the code as 01's number and values
+--   number, verdictOf, refusalOf         a refusal, a judgement and an outcome of the code as the papers' number and values
 use Prim.Native.Nat.{ℕ}
 use mathlib.Core.Path.{_≡_}
 use mathlib.Core.Logic.{_⊎_}

@@ -34,7 +34,7 @@ pub fn charge(
 ) -> Result<u64, u32> {
     let plan = bytes(rows);
     let graph = Graph::from_plan(&plan);
-    let bill_refusal = || {
+    let refusal_after_judge = || {
         first_of(&[
             (18, &|| minutes.len() != graph.size()),
             (18, &|| minutes.iter().any(|&entry| entry > 999)),
@@ -42,7 +42,7 @@ pub fn charge(
             (20, &|| !begins_run(kind, &graph, walk)),
         ])
     };
-    match judge_refusal(kind, &plan, walk).or_else(bill_refusal) {
+    match judge_refusal(kind, &plan, walk).or_else(refusal_after_judge) {
         Some(number) => Err(number),
         None => Ok(nearest_cent(minutes_of(&graph, walk, minutes) * rate)),
     }
