@@ -1,6 +1,7 @@
 pub mod Reason
 pub mod AheadToo
 pub mod StrictOrder
+pub mod Running
 pub mod Maximal
 pub mod Ordering
 pub mod Run

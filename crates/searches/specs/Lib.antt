@@ -1,6 +1,7 @@
 pub mod Kind
 pub mod Ordering
 pub mod Label
+pub mod Running
 pub mod Run
 pub mod Violation
 pub mod CarryOn
