@@ -11,15 +11,13 @@
 --   inserted-word, removed-word, difference-word, common-word, fullBelow-word   those sets are words of 64 bits
 --   equal-members                                      words with the same members are equal
 --   empty, empty-back, some-member                     0 has no member, and no other word has none
---   size-counts, trailing-first, leading-last          the machine's counts: how many members, the first and the last
---   upper-leading                                      the least number above all members
---   top-is-last                                        the highest set bit is the last member
+--   size-counts, trailing-first                        the machine's counts: how many members, and the first
 -- Assumes nothing.
 use mathlib.Core.Path.{_≡_, refl, sym, ap, ap₂, _∙_, subst}
 use mathlib.Core.Bool.{Bool, true, false, cond, not, _&&_, _||_, Bool·beq, or-comm}
 use mathlib.Core.Logic.{_⊎_, inl, inr}
 use Prim.Native.Nat.{ℕ, zero, suc, _+_, _-_, _*_, _/_, _%_, _^_, _≤_, _<_, min, max}
-use native.Mathlib.Nat.{one-mul, mod-eq-of-lt, div-one, mul-add-mod-self-right, pow-suc, mul-div-cancel, mul-mod-left, div-eq-of-lt, div-eq-of-lt-le, lt-of-lt-of-le, lt-of-le-of-lt, eq-zero-or-pos, min-eq-left, min-le-right}
+use native.Mathlib.Nat.{one-mul, mod-eq-of-lt, div-one, mul-add-mod-self-right, pow-suc, mul-div-cancel, mul-mod-left, div-eq-of-lt, lt-of-lt-of-le, lt-of-le-of-lt, min-eq-left, min-le-right}
 use native.Mathlib.Numerals.{one-add}
 use native.Mathlib.Omega.{arith}
 use lib.Dec.{T, ltb, eqb, ltb→lt, lt→ltb, eqb→eq, eqb·zero-suc, eqb·suc-zero, eqb·suc-suc, leb·suc-zero, leb·suc-suc, leb·zero}
@@ -27,11 +25,11 @@ use lib.Arith.{lt-one}
 use lib.Pow.{shr-shr, pow-mono, pow-lt, pow-pos, ones-lt}
 use lib.Bits as bits
 use lib.Bits.{bitAnd, bitOr, bitXor, and-step, or-step, xor-step, and-shr, or-shr, xor-shr, or-lt, xor-lt, and-le-l}
-use lib.Count.{ones, ones-step, leadingZeros, leading-top, leading-of-zero, trailingZeros, under}
-use Rattle.bitset.specs.Below.{anyBelow, firstBelow, lastBelow, countBelow, differ}
-use Rattle.bitset.specs.Word.{member, inserted, removed, difference, united, common, fullBelow, upperBound}
+use lib.Count.{ones, ones-step, trailingZeros, under}
+use Rattle.bitset.specs.Below.{anyBelow, firstBelow, countBelow, differ}
+use Rattle.bitset.specs.Word.{member, inserted, removed, difference, united, common, fullBelow}
 use Rattle.bitset.proofs.Tests.{is-true, is-false, decided, below-or}
-use Rattle.bitset.proofs.Below.{Some, any-out, any-in, any-at, first-same, first-bottom, IsLast, last-unique}
+use Rattle.bitset.proofs.Below.{Some, any-out, any-at, first-same, first-bottom}
 use Rattle.bitset.proofs.Count.{count-same, count-bottom}
 
 -- ---- the bits, one by one
@@ -230,7 +228,7 @@ some-member k {x} h pos = go (decided (anyBelow k (member x)))
     go (inl t) = any-out k (member x) t
     go (inr none) = let zero-word = empty k h (λ p l t. none (any-at k (member x) p l t)) in absurd (omega arith)
 
--- ---- how many, the first and the last
+-- ---- how many, and the first
 
 pub size-counts : (k : ℕ) {x : ℕ} → x < 2 ^ k → ones x ≡ countBelow k (member x)
 unfolding ones countBelow
@@ -251,30 +249,3 @@ trailing-first (suc k) x =
     pick : (b : Bool) (t : ℕ) → under (cond b 1 0) t ≡ cond b 0 (suc t)
     pick true t = refl
     pick false t = refl
-
--- the highest set bit is the last member
-pub top-is-last : (k j : ℕ) {x : ℕ} → 2 ^ j ≤ x → x < 2 ^ suc j → j < k → IsLast k (member x) j
-unfolding member
-top-is-last k j {x} low high l = record {
-  below = l;
-  holds = subst (λ (y : ℕ). T (eqb (y % 2) 1)) (sym (div-eq-of-lt-le {k = 1} (2 ^ j) {m = x} (omega arith) (omega (arith, pow-suc 2 j)))) tt;
-  greatest = λ i _ t. let b = member-below (suc j) high i t in omega arith;
-}
-
-pub leading-last : (k : ℕ) {x : ℕ} → 0 < x → x < 2 ^ k → leadingZeros k x + suc (lastBelow k (member x)) ≡ k
-leading-last k {x} pos h =
-    let top = leading-top k x pos h in
-    ap (λ (m : ℕ). leadingZeros k x + suc m) (sym (last-unique (top-is-last k (top .0) (top .2) (top .3) (omega (arith, top .1))))) ∙ top .1
-
-pub upper-leading : {x : ℕ} → x < 2 ^ 64 → leadingZeros 64 x + upperBound x ≡ 64
-unfolding upperBound
-upper-leading {x} h = go (eq-zero-or-pos x)
-  where
-    go : (x ≡ 0) ⊎ (0 < x) → leadingZeros 64 x + cond (anyBelow 64 (member x)) (suc (lastBelow 64 (member x))) 0 ≡ 64
-    go (inl e) =
-        ap (λ (b : Bool). leadingZeros 64 x + cond b (suc (lastBelow 64 (member x))) 0)
-        (is-false (anyBelow 64 (member x)) (λ t. let s = any-out 64 (member x) t in empty-back e (s .at) (s .holds)))
-        ∙ ap (λ (y : ℕ). leadingZeros 64 y + 0) e ∙ ap (λ (y : ℕ). y + 0) (leading-of-zero 64)
-    go (inr pos) =
-        ap (λ (b : Bool). leadingZeros 64 x + cond b (suc (lastBelow 64 (member x))) 0) (is-true (anyBelow 64 (member x)) (any-in (some-member 64 h pos)))
-        ∙ leading-last 64 pos h

@@ -7,12 +7,10 @@
 --   common x y        the numbers that are in both
 --   fullBelow n       the set of the numbers below n; of all 64 where n is more
 --   fromUp n x p      p is in the set x, and n or more
---   upperBound x      the least number above all of x; 0 where x is empty
-use Prim.Native.Nat.{ℕ, suc, _-_, _/_, _%_, _^_, min}
+use Prim.Native.Nat.{ℕ, _-_, _/_, _%_, _^_, min}
 use mathlib.Core.Bool.{Bool, cond, _&&_}
 use lib.Dec.{eqb, ltb, leb}
 use lib.Bits.{bitAnd, bitOr, bitXor}
-use Rattle.bitset.specs.Below.{anyBelow, lastBelow}
 
 unfoldable pub member : ℕ → ℕ → Bool
 member x p = eqb (x / 2 ^ p % 2) 1
@@ -37,6 +35,3 @@ fullBelow n = 2 ^ min n 64 - 1
 
 unfoldable pub fromUp : ℕ → ℕ → ℕ → Bool
 fromUp n x p = leb n p && member x p
-
-unfoldable pub upperBound : ℕ → ℕ
-upperBound x = cond (anyBelow 64 (member x)) (suc (lastBelow 64 (member x))) 0

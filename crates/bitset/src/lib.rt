@@ -2,7 +2,7 @@
 ghost use mathlib.Core.Path.{_≡_};
 ghost use mathlib.Core.Bool.{_&&_};
 ghost use Rattle.bitset.specs.Below.{anyBelow, firstBelow, lastBelow, countBelow, differ, within};
-ghost use Rattle.bitset.specs.Word.{member, inserted, removed, difference, united, common, fullBelow, fromUp, upperBound};
+ghost use Rattle.bitset.specs.Word.{member, inserted, removed, difference, united, common, fullBelow, fromUp};
 
 // Whether `element` is in the set; no number from 64 up is.
 pub fn contains(set: u64, element: usize) -> bool
@@ -84,13 +84,6 @@ pub fn without_smallest(set: u64) -> u64
     ensures { λ r. ⌜ r ≡ removed set (firstBelow 64 (member set)) ⌝ }
 {
     if set == 0 { 0 } else { set & (set - 1) }
-}
-
-// The least number above all of the set: one more than its largest; 0 where it is empty.
-pub fn upper_bound(set: u64) -> usize
-    ensures { λ r. ⌜ r ≡ upperBound set ⌝ }
-{
-    64 - u64::leading_zeros(set) as usize
 }
 
 // The smallest number that is in just one of the two sets; 64 where they are equal.

@@ -28,10 +28,9 @@ use Rattle.searches.proofs.Ordering.{ordering-fits}
 use Rattle.searches.proofs.CarryOn.{passes-greedy}
 use Rattle.searches.proofs.Refusals.{none-accepts, first-refuses, oneWay-in}
 use Rattle.searches.proofs.Answers as answers
-use Rattle.labels.specs.Words.{Tallied}
 use Rattle.checks.proofs.Tried.{tried-first, refused-before}
-use Rattle.steps.specs.Steps.{labelsAfter, placedAfter, freeAfter, stopsAt, lastIn, firstIn, firstFault, fillIn, BothWays, Replayable, Searchable, Along}
-use Rattle.steps.proofs.Tallying.{tallied-after}
+use Rattle.steps.specs.Steps.{labelsAfter, smallestAfter, largestAfter, placedAfter, freeAfter, stopsAt, lastIn, firstIn, firstFault, fillIn, BothWays, Replayable, Searchable, Along}
+use Rattle.steps.proofs.Tracking.{consistent-after}
 use Rattle.steps.proofs.Growing.{along-start}
 use Rattle.engine.specs.declared.after.Moment.{Moment}
 use Rattle.engine.specs.Lists.{Judgeable, Extendable}
@@ -48,7 +47,7 @@ valid-both-ways kind rows a u v l h = same-test (arcs rows u v) (arcs rows v u) 
     back u v l h t = not-not (arcs rows v u) (not-T (not (arcs rows v u)) (λ none. a .1 .1 .1 .1 .0 (oneWay-in rows u v l h t (T-not (arcs rows v u) none))))
 
 module _ (rows w : List ℕ) (k : ℕ) (x : Judgeable rows w k) where
-  pub replayable : Replayable rows w k (replicate 64 0)
+  pub replayable : Replayable rows w k (replicate 64 0) (replicate 64 64) (replicate 64 64)
   replayable = record {
     long = x .ordering .long;
     fits = ordering-fits (length rows) (x .ordering);
@@ -57,34 +56,34 @@ module _ (rows w : List ℕ) (k : ℕ) (x : Judgeable rows w k) where
     distinct = x .ordering .distinct;
     both-ways = x .both-ways;
     empty = refl;
+    no-smallest = refl;
+    no-largest = refl;
   }
 
   module _ (s : Search) (j : ℕ) (stops : j ≡ firstBelow k (stopsAt s rows w)) where
     module _ (labels : List ℕ) (placed free : ℕ) (l : j < k) (at-labels : labels ≡ labelsAfter rows w j) (at-placed : placed ≡ placedAfter w j) (at-free : free ≡ freeAfter (length rows) w j) where
-      searchable : Searchable rows w k labels placed free j
-      searchable = record {
-        long = x .ordering .long;
-        inside = l;
-        fits = ordering-fits (length rows) (x .ordering);
-        small = x .small;
-        vertices = x .ordering .vertices;
-        unplaced = at-free;
-        tallied =
-            subst (λ (ls : List ℕ). Tallied rows ls placed) (sym at-labels)
-            (subst (λ (set : ℕ). Tallied rows (labelsAfter rows w j) set) (sym at-placed)
-            (tallied-after rows w k (x .small) (x .ordering) (x .both-ways) j (omega arith)));
-      }
+      module _ {smallest largest : List ℕ} (at-smallest : smallest ≡ smallestAfter rows w j) (at-largest : largest ≡ largestAfter rows w j) where
+        searchable : Searchable rows w k labels smallest largest placed free j
+        searchable = record {
+          long = x .ordering .long;
+          inside = l;
+          fits = ordering-fits (length rows) (x .ordering);
+          small = x .small;
+          vertices = x .ordering .vertices;
+          unplaced = at-free;
+          consistent = consistent-after rows w k (x .small) (x .ordering) (x .both-ways) j (omega arith) at-labels at-smallest at-largest at-placed;
+        }
 
-      pub fault-there : Searchable rows w k labels placed free j × T (anyBelow j (firstIn s rows w labels free j k))
-      fault-there = (
-        searchable,
-        subst (λ (ls : List ℕ). T (anyBelow j (firstIn s rows w ls free j k))) (sym at-labels)
-            (subst (λ (f : ℕ). T (anyBelow j (firstIn s rows w (labelsAfter rows w j) f j k))) (sym at-free)
-            (some-found j (firstIn s rows w (labelsAfter rows w j) (freeAfter (length rows) w j) j k)
-            (firstBelow j (firstIn s rows w (labelsAfter rows w j) (freeAfter (length rows) w j) j k)) refl
-            (first-before s rows w k (x .small) (x .ordering) j stops l
-            (firstBelow j (firstIn s rows w (labelsAfter rows w j) (freeAfter (length rows) w j) j k)) refl))),
-      )
+        pub fault-there : Searchable rows w k labels smallest largest placed free j × T (anyBelow j (firstIn s rows w labels free j k))
+        fault-there = (
+          searchable,
+          subst (λ (ls : List ℕ). T (anyBelow j (firstIn s rows w ls free j k))) (sym at-labels)
+              (subst (λ (f : ℕ). T (anyBelow j (firstIn s rows w (labelsAfter rows w j) f j k))) (sym at-free)
+              (some-found j (firstIn s rows w (labelsAfter rows w j) (freeAfter (length rows) w j) j k)
+              (firstBelow j (firstIn s rows w (labelsAfter rows w j) (freeAfter (length rows) w j) j k)) refl
+              (first-before s rows w k (x .small) (x .ordering) j stops l
+              (firstBelow j (firstIn s rows w (labelsAfter rows w j) (freeAfter (length rows) w j) j k)) refl))),
+        )
 
       pub fault-judged : firstFault s rows w labels free j k ≡ judge s (arcs rows) (length rows) w k
       unfolding firstFault
@@ -104,9 +103,10 @@ module _ (rows w : List ℕ) (k : ℕ) (x : Judgeable rows w k) where
     ended-passes l = judge-passes-words s rows w k (x .small) (x .ordering) (omega arith)
 
   -- where the replay came to the end, its words are those after all k vertices
-  pub along-ended : (s : Search) (count : ℕ) → count ≡ firstBelow k (stopsAt s rows w) → k ≤ count → {labels : List ℕ} {placed free : ℕ}
-      → labels ≡ labelsAfter rows w count → placed ≡ placedAfter w count → free ≡ freeAfter (length rows) w count → Along rows k labels placed free
-  along-ended s count stops ended at-labels at-placed at-free =
+  pub along-ended : (s : Search) (count : ℕ) → count ≡ firstBelow k (stopsAt s rows w) → k ≤ count → {labels smallest largest : List ℕ} {placed free : ℕ}
+      → labels ≡ labelsAfter rows w count → smallest ≡ smallestAfter rows w count → largest ≡ largestAfter rows w count → placed ≡ placedAfter w count
+      → free ≡ freeAfter (length rows) w count → Along rows k labels smallest largest placed free
+  along-ended s count stops ended at-labels at-smallest at-largest at-placed at-free =
       let whole : count ≡ k = omega (arith, stops, first k (stopsAt s rows w) .within) in
       let a = along-start rows w k (x .ordering) in
       record {
@@ -114,6 +114,8 @@ module _ (rows w : List ℕ) (k : ℕ) (x : Judgeable rows w k) where
         long = a .long;
         ordering = a .ordering;
         labelled = at-labels ∙ ap (λ (j : ℕ). labelsAfter rows w j) whole ∙ a .labelled;
+        firsts = at-smallest ∙ ap (λ (j : ℕ). smallestAfter rows w j) whole ∙ a .firsts;
+        lasts = at-largest ∙ ap (λ (j : ℕ). largestAfter rows w j) whole ∙ a .lasts;
         set = at-placed ∙ ap (λ (j : ℕ). placedAfter w j) whole ∙ a .set;
         unplaced = at-free ∙ ap (λ (j : ℕ). freeAfter (length rows) w j) whole ∙ a .unplaced;
       }
@@ -185,21 +187,23 @@ module _ (kind : ℕ) (rows w : List ℕ) where
         (sym (stopped-fails rows w (length w) (asked .0) (searchOf kind) count stops (labelsAfter rows w count) (placedAfter w count) (freeAfter (length rows) w count) l refl refl refl)
         ∙ ap isPass (asked .1))
 
-    pub moment-ended : {placed free : ℕ} {labels : List ℕ} → length w ≤ count → placed ≡ placedAfter w count → free ≡ freeAfter (length rows) w count
-        → labels ≡ labelsAfter rows w count → record { passes = true; placed = placed; free = free; labels = labels } ≡ momentAfter kind rows w
+    pub moment-ended : {placed free : ℕ} {labels smallest largest : List ℕ} → length w ≤ count → placed ≡ placedAfter w count → free ≡ freeAfter (length rows) w count
+        → labels ≡ labelsAfter rows w count → smallest ≡ smallestAfter rows w count → largest ≡ largestAfter rows w count
+        → record { passes = true; placed = placed; free = free; labels = labels; smallest = smallest; largest = largest } ≡ momentAfter kind rows w
     unfolding momentAfter momentOf isPass
-    moment-ended {placed} {free} {labels} l at-placed at-free at-labels =
+    moment-ended {placed} {free} {labels} {smallest} {largest} l at-placed at-free at-labels at-smallest at-largest =
         let whole : count ≡ length w = omega (arith, stops, first (length w) (stopsAt (searchOf kind) rows w) .within) in
         let passing : true ≡ isPass (judgeAnswer kind rows w) =
         ap isPass (sym (ended-passes rows w (length w) (asked .0) (searchOf kind) count stops l) ∙ asked .1)
         in
-        ap (λ (p : ℕ). handed p free labels) (at-placed ∙ ap (λ (j : ℕ). placedAfter w j) whole)
-        ∙ ap₂ (λ (f : ℕ) (ls : List ℕ). handed (placedAfter w (length w)) f ls) (at-free ∙ ap (λ (j : ℕ). freeAfter (length rows) w j) whole)
-        (at-labels ∙ ap (λ (j : ℕ). labelsAfter rows w j) whole)
+        ap₂ (λ (p f : ℕ). handed p f labels smallest largest) at-placed at-free
+        ∙ ap₂ (λ (ls ss : List ℕ). handed (placedAfter w count) (freeAfter (length rows) w count) ls ss largest) at-labels at-smallest
+        ∙ ap (λ (ls : List ℕ). handed (placedAfter w count) (freeAfter (length rows) w count) (labelsAfter rows w count) (smallestAfter rows w count) ls) at-largest
+        ∙ ap (λ (j : ℕ). handed (placedAfter w j) (freeAfter (length rows) w j) (labelsAfter rows w j) (smallestAfter rows w j) (largestAfter rows w j)) whole
         ∙ ap (λ (b : Bool). cond b (momentOf rows w) noMoment) passing
       where
-        handed : ℕ → ℕ → List ℕ → Moment
-        handed p f ls = record { passes = true; placed = p; free = f; labels = ls }
+        handed : ℕ → ℕ → List ℕ → List ℕ → List ℕ → Moment
+        handed p f ls ss gs = record { passes = true; placed = p; free = f; labels = ls; smallest = ss; largest = gs }
 
 module _ (kind : ℕ) (rows t out : List ℕ) (k : ℕ) where
   abbrev verdict : Verdict

@@ -1,16 +1,18 @@
-// The placed and the unplaced vertices and the labels after an ordering, for a caller that continues it.
+// The placed and the unplaced vertices, the labels and the running values after an ordering, for a caller that continues it.
 use searches::Kind;
 use searches::Outcome;
 ghost use mathlib.Core.Path.{_≡_};
 ghost use Rattle.engine.specs.Moments.{noMoment, momentAfter};
 
-// Whether judge passes an ordering, and the placed and the unplaced vertices and the labels after it; where it does not pass, no vertex and
-// empty labels.
+// Whether judge passes an ordering, and the placed and the unplaced vertices, the labels and the running values after it; where it does not
+// pass, no vertex, empty labels and no value.
 pub struct Moment {
     pub passes: bool,
     pub placed: u64,
     pub free: u64,
     pub labels: [u64; 64],
+    pub smallest: [u8; 64],
+    pub largest: [u8; 64],
 }
 
 // The moment of an ordering that does not pass.
@@ -18,11 +20,15 @@ pub fn no_moment() -> Moment
     ensures { λ r. ⌜ r ≡ noMoment ⌝ }
 {
     let labels = [0u64; 64];
+    let smallest = [64u8; 64];
+    let largest = [64u8; 64];
     Moment {
         passes: false,
         placed: 0,
         free: 0,
         labels,
+        smallest,
+        largest,
     }
 }
 
@@ -31,12 +37,22 @@ pub fn after(kind: Kind, rows: &[u64], ordering: &[u8]) -> Moment
     ensures { λ r. ⌜ r ≡ momentAfter (kind .0) (now (rows .entry)) (now (ordering .entry)) ⌝ }
 {
     let mut labels = [0u64; 64];
+    let mut smallest = [64u8; 64];
+    let mut largest = [64u8; 64];
     let checked = checks::judge_refusal(kind, rows, ordering);
     if let Outcome::Refused(_) = checked {
         return no_moment();
     }
     let k = ordering.len();
-    let placed = steps::replay::replay(kind, rows, ordering, k, &mut labels);
+    let placed = steps::replay::replay(
+        kind,
+        rows,
+        ordering,
+        k,
+        &mut labels,
+        &mut smallest,
+        &mut largest,
+    );
     if placed.count < k {
         return no_moment();
     }
@@ -45,5 +61,7 @@ pub fn after(kind: Kind, rows: &[u64], ordering: &[u8]) -> Moment
         placed: placed.set,
         free: placed.free,
         labels,
+        smallest,
+        largest,
     }
 }

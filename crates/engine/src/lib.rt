@@ -38,8 +38,18 @@ fn verdict(kind: Kind, rows: &[u64], ordering: &[u8]) -> Judgement
         ⌝ }
 {
     let mut labels = [0u64; 64];
+    let mut smallest = [64u8; 64];
+    let mut largest = [64u8; 64];
     let k = ordering.len();
-    let placed = steps::replay::replay(kind, rows, ordering, k, &mut labels);
+    let placed = steps::replay::replay(
+        kind,
+        rows,
+        ordering,
+        k,
+        &mut labels,
+        &mut smallest,
+        &mut largest,
+    );
     let j = placed.count;
     let set = placed.set;
     let free = placed.free;
@@ -50,6 +60,8 @@ fn verdict(kind: Kind, rows: &[u64], ordering: &[u8]) -> Judgement
             ordering,
             k,
             &labels,
+            &smallest,
+            &largest,
             set,
             free,
             Position(j),
@@ -84,7 +96,17 @@ fn extend(kind: Kind, rows: &[u64], tie_break: &[u8], output: &mut [u8], k: usiz
         ⌝ }
 {
     let mut labels = [0u64; 64];
-    let placed = steps::replay::replay(kind, rows, output, k, &mut labels);
+    let mut smallest = [64u8; 64];
+    let mut largest = [64u8; 64];
+    let placed = steps::replay::replay(
+        kind,
+        rows,
+        output,
+        k,
+        &mut labels,
+        &mut smallest,
+        &mut largest,
+    );
     if placed.count < k {
         return Outcome::Refused(Refusal::StartFails);
     }
@@ -98,6 +120,8 @@ fn extend(kind: Kind, rows: &[u64], tie_break: &[u8], output: &mut [u8], k: usiz
         &mut output[k..],
         k,
         &mut labels,
+        &mut smallest,
+        &mut largest,
         set,
         free,
         reached,

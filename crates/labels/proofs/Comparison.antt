@@ -1,20 +1,19 @@
 -- The comparison of two labels that are kept as words, search by search, and the test for an excuse.
 --   empty-word                              a word has no member exactly when it is 0
---   upper-above, upper-least                what upperBound is
---   bfs-words, dfs-words, .., generic-words   what the code computes is what aheadIn says
+--   bfs-words, lexBfs-words, .., generic-words   what the code computes is what aheadIn says; DFS and MCS compare no words
 --   unexcused-*                             likewise for unexcusedIn
 --   of-kind, searchOf-other, searchOf-mns   from a kind byte to its search
 -- Assumes nothing.
 use mathlib.Core.Path.{_≡_, refl, sym, ap, ap₂, _∙_, subst}
-use mathlib.Core.Bool.{Bool, true, false, cond, not, _&&_, and-comm}
+use mathlib.Core.Bool.{Bool, true, false, not, _&&_}
 use mathlib.Core.Logic.{_⊎_, inl, inr, _≢_}
 use Prim.Native.Nat.{ℕ, zero, suc, _≤_, _<_, _^_}
 use native.Mathlib.Omega.{arith}
 use lib.Dec.{T, ltb, leb, eqb, ltb→lt, lt→ltb, leb→le, le→leb, eqb→eq, eqb-refl, not-T, T-not}
 use Rattle.bitset.specs.Below.{anyBelow, firstBelow, lastBelow, differ, within}
-use Rattle.bitset.specs.Word.{member, difference, fromUp, upperBound}
-use Rattle.bitset.proofs.Tests.{and-in, and-out, and-true, decided, same-test, is-true, is-false, cond-yes, cond-no, three-ways, below-or}
-use Rattle.bitset.proofs.Below.{Some, any-out, any-in, any-at, any-same, first, first-earliest, last}
+use Rattle.bitset.specs.Word.{member, difference, fromUp}
+use Rattle.bitset.proofs.Tests.{and-in, and-out, and-true, decided, same-test, is-true, is-false, three-ways, below-or}
+use Rattle.bitset.proofs.Below.{any-out, any-at, any-same, first, first-earliest}
 use Rattle.bitset.proofs.Sets.{within-in, within-out}
 use Rattle.bitset.proofs.Word as word
 use Rattle.searches.specs.Kind.{Search, generic, bfs, dfs, lexBfs, lexDfs, mns, mcs, searchOf}
@@ -35,36 +34,6 @@ empty-word x h = same-test (not (anyBelow 64 (member x))) (eqb x 0) forth back
 
     back : T (eqb x 0) → T (not (anyBelow 64 (member x)))
     back t = not-T (anyBelow 64 (member x)) (λ u. let s = any-out 64 (member x) u in word.empty-back (eqb→eq x 0 t) (s .at) (s .holds))
-
-pub upper-above : (x p : ℕ) → p < 64 → T (member x p) → p < upperBound x
-unfolding upperBound
-upper-above x p l t =
-    let some : Some 64 (member x) = record { at = p; below = l; holds = t } in
-    let e = cond-yes (anyBelow 64 (member x)) (suc (lastBelow 64 (member x))) 0 (any-in some) in
-    omega (arith, e, last some .greatest p l t)
-
-pub upper-least : (x m : ℕ) → ((p : ℕ) → p < 64 → T (member x p) → p < m) → upperBound x ≤ m
-unfolding upperBound
-upper-least x m h = go (decided (anyBelow 64 (member x)))
-  where
-    go : T (anyBelow 64 (member x)) ⊎ (T (anyBelow 64 (member x)) → ⊥) → cond (anyBelow 64 (member x)) (suc (lastBelow 64 (member x))) 0 ≤ m
-    go (inl t) =
-        let some = any-out 64 (member x) t in
-        omega (arith, cond-yes (anyBelow 64 (member x)) (suc (lastBelow 64 (member x))) 0 t, h (lastBelow 64 (member x)) (last some .below) (last some .holds))
-    go (inr none) = omega (arith, cond-no (anyBelow 64 (member x)) (suc (lastBelow 64 (member x))) 0 none)
-
--- where upperBound is not 0 the word has a member just below it
-pub upper-some : (x : ℕ) → 0 < upperBound x → Some 64 (member x)
-unfolding upperBound
-upper-some x pos = go (decided (anyBelow 64 (member x)))
-  where
-    go : T (anyBelow 64 (member x)) ⊎ (T (anyBelow 64 (member x)) → ⊥) → Some 64 (member x)
-    go (inl t) = any-out 64 (member x) t
-    go (inr none) = absurd (omega (arith, cond-no (anyBelow 64 (member x)) (suc (lastBelow 64 (member x))) 0 none))
-
-pub upper-last : (x : ℕ) → Some 64 (member x) → upperBound x ≡ suc (lastBelow 64 (member x))
-unfolding upperBound
-upper-last x some = cond-yes (anyBelow 64 (member x)) (suc (lastBelow 64 (member x))) 0 (any-in some)
 
 -- ---- who is ahead
 
@@ -104,37 +73,6 @@ module _ (c b : ℕ) where
           go (inr (inr l)) =
               let i : q < 64 = omega (arith, r .below) in
               absurd (r .unexcused q i (first 64 (member b) .holds i) (lt→ltb q (r .position) l))
-
-  pub dfs-words : ltb (upperBound b) (upperBound c) ≡ aheadIn dfs c b
-  unfolding aheadIn condition
-  dfs-words =
-      same-test (ltb (upperBound b) (upperBound c)) (outranks dfs 64 (member c) (member b))
-      (λ t. reason→outranks 64 (member c) (member b) dfs (forth (ltb→lt (upperBound b) (upperBound c) t)))
-      (λ t. lt→ltb (upperBound b) (upperBound c) (back (outranks→reason 64 (member c) (member b) dfs t)))
-    where
-      forth : upperBound b < upperBound c → Reason (condition dfs) 64 (member c) (member b)
-      forth l =
-          let some = upper-some c (omega arith) in
-          let top = last some in
-          let e = upper-last c some in
-          record {
-            position = lastBelow 64 (member c);
-            below = top .below;
-            ours = top .holds;
-            theirs = λ x. omega (arith, e, upper-above b (lastBelow 64 (member c)) (top .below) x);
-            unexcused = λ d i x y. omega (arith, e, upper-above b d i x, ltb→lt (lastBelow 64 (member c)) d y);
-          }
-
-      back : Reason (condition dfs) 64 (member c) (member b) → upperBound b < upperBound c
-      back r = omega (arith, upper-least b (r .position) under, upper-above c (r .position) (r .below) (r .ours))
-        where
-          under : (d : ℕ) → d < 64 → T (member b d) → d < r .position
-          under d i x = go (three-ways d (r .position))
-            where
-              go : (d < r .position) ⊎ ((d ≡ r .position) ⊎ (r .position < d)) → d < r .position
-              go (inl l) = l
-              go (inr (inl e)) = absurd (r .theirs (subst (λ (y : ℕ). T (member b y)) e x))
-              go (inr (inr l)) = absurd (r .unexcused d i x (lt→ltb (r .position) d l))
 
   pub lexBfs-words : c < 2 ^ 64 → member c (firstBelow 64 (differ (member c) (member b))) ≡ aheadIn lexBfs c b
   unfolding aheadIn outranks settled
@@ -282,10 +220,6 @@ module _ (i c b : ℕ) where
       turned true false true = refl
       turned true false false = refl
       turned false y z = refl
-
-  pub unexcused-dfs : not (anyBelow 64 (fromUp (suc i) b)) ≡ unexcusedIn dfs i c b
-  unfolding unexcusedIn condition meets fromUp
-  unexcused-dfs = none-such i c b (λ d. leb (suc i) d && member b d) (λ d. ltb i d) (λ d _. and-comm (leb (suc i) d) (member b d)) (not (anyBelow 64 (fromUp (suc i) b))) refl
 
   pub unexcused-lexDfs : not (anyBelow 64 (fromUp (suc i) (difference b c))) ≡ unexcusedIn lexDfs i c b
   unfolding unexcusedIn condition meets fromUp

@@ -1,4 +1,5 @@
 pub mod Comparison
+pub mod Extremes
 pub mod Profiles
 pub mod Scan
 pub mod Spreading

@@ -1,12 +1,20 @@
--- What the code computes on labels that are kept as words. `labels` is the list of the 64 words, `free` the set of the unplaced vertices.
+-- What the code computes on labels that are kept as words. `labels` is the list of the 64 words, `smallest` and `largest` are the lists of the
+-- running values beside them, `free` is the set of the unplaced vertices.
 --   tally rows placed v           how many of `placed` are in v's row: ones counted in row AND placed mask          [01: the form for MCS]
 --   Tallied rows labels placed    that is for every vertex how many positions its label holds
+--   byteOf x                      how a running value is kept: its position, 64 where there is none
+--   Tracked labels smallest largest   for every vertex the running values are the smallest and the largest position in its label
+--   Consistent rows labels smallest largest placed   Tallied and Tracked: what is kept beside the labels agrees with them
 --   countIn s label               how many positions a label holds, for MCS; 0 for the other searches, which do not count
 --   profileOf s label             what a comparison looks at, of a vertex with this label
 --   aheadIn s c b                 label c is ahead of label b
 --   unexcusedIn s i c b           nothing in b's label, nor its size, excuses position i against c's
+--   changedBy put row v x         what is kept of v, changed by `put` where v is in row
+--   spreadBy put row i kept       what is kept of the vertices, changed by `put` for those below i that are in row
 --   joinedIn row p v label        v's label, with p put in where v is in row
 --   spreadTo row p i labels       the labels, with p put into those of the vertices below i that are in row
+--   firstKept p x                 the smallest position x, or p where there is none
+--   smallestTo, largestTo row p i kept   the running values, with p placed in row: p where there was no smallest, p for every largest
 --   beatenIn s labels free mine   a free vertex has a label ahead of `mine`
 --   openIn s labels free v        v is free and not beaten
 --   chosenIn s labels free t      of the open vertices, the one that stands last in t
@@ -16,13 +24,15 @@ use Prim.Native.Nat.{ℕ, zero, suc, _<_}
 use mathlib.Core.Path.{_≡_}
 use mathlib.Core.Bool.{Bool, cond, not, _&&_}
 use mathlib.Core.List.{List}
-use lib.Dec.{T}
+use mathlib.Core.Option.{Option, none, some}
+use lib.Dec.{T, eqb}
 use lib.ListN.{length, getD, set}
 use Rattle.bitset.specs.Below.{anyBelow, lastBelow, countBelow}
 use Rattle.bitset.specs.Word.{member, inserted, common}
 use Rattle.searches.specs.Kind.{Search, generic, bfs, dfs, lexBfs, lexDfs, mns, mcs}
 use Rattle.searches.specs.Ordering.{at}
 use Rattle.searches.specs.Label.{outranks}
+use Rattle.searches.specs.Running.{smallestIn, largestIn}
 use Rattle.searches.specs.Violation.{condition, meets}
 use Rattle.labels.specs.declared.profile.Profile.{Profile}
 
@@ -31,6 +41,19 @@ tally rows placed v = countBelow 64 (member (common (getD rows v 0) placed))
 
 abbrev pub Tallied : List ℕ → List ℕ → ℕ → Type 0
 Tallied rows labels placed = (v : ℕ) → v < 64 → tally rows placed v ≡ countBelow 64 (member (getD labels v 0))
+
+unfoldable pub byteOf : Option ℕ → ℕ
+byteOf none = 64
+byteOf (some p) = p
+
+abbrev pub Tracked : List ℕ → List ℕ → List ℕ → Type 0
+Tracked labels smallest largest =
+    (v : ℕ) → v < 64
+    → (getD smallest v 0 ≡ byteOf (smallestIn 64 (member (getD labels v 0)))) × (getD largest v 0 ≡ byteOf (largestIn 64 (member (getD labels v 0))))
+
+pub record Consistent (rows labels smallest largest : List ℕ) (placed : ℕ) : Type 0 where
+  pub tallied : Tallied rows labels placed
+  pub tracked : Tracked labels smallest largest
 
 unfoldable pub countIn : Search → ℕ → ℕ
 countIn generic label = 0
@@ -42,7 +65,12 @@ countIn mns label = 0
 countIn mcs label = countBelow 64 (member label)
 
 unfoldable pub profileOf : Search → ℕ → Profile
-profileOf s label = record { label = label; count = countIn s label }
+profileOf s label = record {
+  label = label;
+  count = countIn s label;
+  smallest = byteOf (smallestIn 64 (member label));
+  largest = byteOf (largestIn 64 (member label));
+}
 
 unfoldable pub aheadIn : Search → ℕ → ℕ → Bool
 aheadIn s c b = outranks s 64 (member c) (member b)
@@ -50,12 +78,27 @@ aheadIn s c b = outranks s 64 (member c) (member b)
 unfoldable pub unexcusedIn : Search → ℕ → ℕ → ℕ → Bool
 unexcusedIn s i c b = meets (condition s i) 64 (member c) (member b)
 
-unfoldable pub joinedIn : ℕ → ℕ → ℕ → ℕ → ℕ
-joinedIn row p v label = cond (member row v) (inserted label p) label
+unfoldable pub changedBy : (ℕ → ℕ) → ℕ → ℕ → ℕ → ℕ
+changedBy put row v x = cond (member row v) (put x) x
 
-unfoldable pub spreadTo : ℕ → ℕ → ℕ → List ℕ → List ℕ
-spreadTo row p zero labels = labels
-spreadTo row p (suc i) labels = let rest = spreadTo row p i labels in set rest i (joinedIn row p i (getD rest i 0))
+unfoldable pub spreadBy : (ℕ → ℕ) → ℕ → ℕ → List ℕ → List ℕ
+spreadBy put row zero kept = kept
+spreadBy put row (suc i) kept = let rest = spreadBy put row i kept in set rest i (changedBy put row i (getD rest i 0))
+
+abbrev pub joinedIn : ℕ → ℕ → ℕ → ℕ → ℕ
+joinedIn row p v label = changedBy (λ x. inserted x p) row v label
+
+abbrev pub spreadTo : ℕ → ℕ → ℕ → List ℕ → List ℕ
+spreadTo row p i labels = spreadBy (λ x. inserted x p) row i labels
+
+unfoldable pub firstKept : ℕ → ℕ → ℕ
+firstKept p x = cond (eqb x 64) p x
+
+abbrev pub smallestTo : ℕ → ℕ → ℕ → List ℕ → List ℕ
+smallestTo row p i smallest = spreadBy (λ x. firstKept p x) row i smallest
+
+abbrev pub largestTo : ℕ → ℕ → ℕ → List ℕ → List ℕ
+largestTo row p i largest = spreadBy (λ x. p) row i largest
 
 module _ (s : Search) where
   unfoldable pub beatenIn : List ℕ → ℕ → ℕ → Bool

@@ -6,18 +6,20 @@ ghost use mathlib.Core.Path.{_≡_};
 ghost use Prim.Native.Nat.{_<_};
 ghost use Rattle.searches.specs.Kind.{searchOf};
 ghost use Rattle.searches.specs.Ordering.{at};
-ghost use Rattle.labels.specs.Words.{Tallied, Champion, Covers, openIn, chosenIn};
+ghost use Rattle.labels.specs.Words.{Consistent, Champion, Covers, openIn, chosenIn};
 
 // A vertex of `free`, which is not empty, that no other vertex of it is ahead of. Only one that is reached is ahead of another.
 fn champion(
     kind: Kind,
     rows: &[u64],
     labels: &[u64; 64],
+    smallest: &[u8; 64],
+    largest: &[u8; 64],
     placed: u64,
     free: u64,
     reached: u64,
 ) -> Vertex
-    requires { ⌜ (0 < free) × Covers reached (now labels) × Tallied (now rows) (now labels) placed ⌝ }
+    requires { ⌜ (0 < free) × Covers reached (now labels) × Consistent (now rows) (now labels) (now smallest) (now largest) placed ⌝ }
     ensures { λ r. ⌜ Champion (searchOf (kind .0)) (now (labels .entry)) free (r .0) ⌝ }
 {
     let front = bitset::common(free, reached);
@@ -29,8 +31,12 @@ fn champion(
     let mut rest = bitset::without_smallest(front);
     while rest != 0 {
         let u = Vertex(bitset::smallest(rest) as u8);
-        let lead = profile_of(kind, rows, labels, placed, best);
-        if crate::is_ahead(kind, profile_of(kind, rows, labels, placed, u), lead) {
+        let lead = profile_of(kind, rows, labels, smallest, largest, placed, best);
+        if crate::is_ahead(
+            kind,
+            profile_of(kind, rows, labels, smallest, largest, placed, u),
+            lead,
+        ) {
             best = u;
         }
         rest = bitset::without_smallest(rest);
@@ -43,13 +49,15 @@ fn is_open(
     kind: Kind,
     rows: &[u64],
     labels: &[u64; 64],
+    smallest: &[u8; 64],
+    largest: &[u8; 64],
     placed: u64,
     free: u64,
     reached: u64,
     best: Vertex,
     v: Vertex,
 ) -> bool
-    requires { ⌜ Champion (searchOf (kind .0)) (now labels) free (best .0) × Covers reached (now labels) × Tallied (now rows) (now labels) placed ⌝ }
+    requires { ⌜ Champion (searchOf (kind .0)) (now labels) free (best .0) × Covers reached (now labels) × Consistent (now rows) (now labels) (now smallest) (now largest) placed ⌝ }
     ensures { λ r. ⌜ r ≡ openIn (searchOf (kind .0)) (now (labels .entry)) free (v .0) ⌝ }
 {
     let number = v.0 as usize;
@@ -60,8 +68,12 @@ fn is_open(
     if number == leader {
         return true;
     }
-    let mine = profile_of(kind, rows, labels, placed, v);
-    if crate::is_ahead(kind, profile_of(kind, rows, labels, placed, best), mine) {
+    let mine = profile_of(kind, rows, labels, smallest, largest, placed, v);
+    if crate::is_ahead(
+        kind,
+        profile_of(kind, rows, labels, smallest, largest, placed, best),
+        mine,
+    ) {
         return false;
     }
     if kind.0 != Kind::MNS.0 {
@@ -71,6 +83,8 @@ fn is_open(
         kind,
         rows,
         labels,
+        smallest,
+        largest,
         placed,
         bitset::common(free, reached),
         mine,
@@ -94,24 +108,37 @@ pub fn choose(
     kind: Kind,
     rows: &[u64],
     labels: &[u64; 64],
+    smallest: &[u8; 64],
+    largest: &[u8; 64],
     placed: u64,
     free: u64,
     reached: u64,
     tie_break: &[u8],
 ) -> Vertex
-    requires { ⌜ Covers reached (now labels) × Tallied (now rows) (now labels) placed ⌝ }
+    requires { ⌜ Covers reached (now labels) × Consistent (now rows) (now labels) (now smallest) (now largest) placed ⌝ }
     ensures { λ r. ⌜ r .0 ≡ chosenIn (searchOf (kind .0)) (now (labels .entry)) free (now («tie_break» .entry)) ⌝ }
 {
     if free == 0 {
         return entry(tie_break, 0);
     }
-    let best = champion(kind, rows, labels, placed, free, reached);
+    let best = champion(kind, rows, labels, smallest, largest, placed, free, reached);
     let length = tie_break.len();
     let mut passed = 0;
     while passed < length {
         passed += 1;
         let v = entry(tie_break, length - passed);
-        if is_open(kind, rows, labels, placed, free, reached, best, v) {
+        if is_open(
+            kind,
+            rows,
+            labels,
+            smallest,
+            largest,
+            placed,
+            free,
+            reached,
+            best,
+            v,
+        ) {
             return v;
         }
     }

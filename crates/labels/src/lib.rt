@@ -1,5 +1,6 @@
-// Labels kept as words: bit p of a vertex's word is set when the vertex at position p leads to it. What is compared of a vertex, the
-// comparison of two, the step that a placed vertex makes, and the choice by a tie-break.
+// Labels kept as words: bit p of a vertex's word is set when the vertex at position p leads to it. Beside them stand the running values: each
+// vertex's smallest and largest position, 64 where it has none. What is compared of a vertex, the comparison of two, the step that a placed
+// vertex makes, and the choice by a tie-break.
 pub mod choice;
 pub mod profile;
 
@@ -11,7 +12,7 @@ use searches::Vertex;
 ghost use mathlib.Core.Path.{_≡_};
 ghost use Prim.Native.Nat.{_<_};
 ghost use Rattle.searches.specs.Kind.{searchOf};
-ghost use Rattle.labels.specs.Words.{profileOf, Tallied, aheadIn, unexcusedIn, spreadTo, beatenIn};
+ghost use Rattle.labels.specs.Words.{Consistent, profileOf, aheadIn, unexcusedIn, spreadTo, firstKept, smallestTo, largestTo, beatenIn};
 
 // Whether a vertex of profile `c` is ahead of one of profile `b`. MNS is tested first, then the kinds below LexBFS, then the others, so Generic
 // stands twice: with seven tests in a row the compiler does not make a loop for each search of a loop that calls this.
@@ -25,10 +26,10 @@ pub fn is_ahead(kind: Kind, c: Profile, b: Profile) -> bool
     }
     if search < Kind::LEX_BFS.0 {
         if search == Kind::BFS.0 {
-            return bitset::smallest(c.label) < bitset::smallest(b.label);
+            return c.smallest < b.smallest;
         }
         if search == Kind::DFS.0 {
-            return bitset::upper_bound(b.label) < bitset::upper_bound(c.label);
+            return (c.largest != 64) & ((b.largest == 64) | (b.largest < c.largest));
         }
         return (c.label != 0) & (b.label == 0);
     }
@@ -52,10 +53,10 @@ pub fn is_unexcused(kind: Kind, position: Position, c: Profile, b: Profile) -> b
     let search = kind.0;
     let i = position.0;
     if search == Kind::BFS.0 {
-        return i <= bitset::smallest(b.label);
+        return i <= b.smallest as usize;
     }
     if search == Kind::DFS.0 {
-        return !bitset::any_from(b.label, i + 1);
+        return (b.largest == 64) | (b.largest as usize <= i);
     }
     if search == Kind::LEX_BFS.0 {
         return i <= bitset::smallest(bitset::without(b.label, c.label));
@@ -72,16 +73,38 @@ pub fn is_unexcused(kind: Kind, position: Position, c: Profile, b: Profile) -> b
     b.label == 0
 }
 
-// Puts `position` into the labels of the vertices below `n` that `row` leads to.
-pub fn spread(labels: &mut [u64; 64], row: u64, position: Position, n: usize)
-    ensures { λ r. ⌜ now (labels .exit) ≡ spreadTo row (position .0) n (now (labels .entry)) ⌝ }
+// A vertex's smallest position once `position` is in its label: the one that it had, or where it had none `position`.
+fn first_kept(kept: u8, position: u8) -> u8
+    ensures { λ r. ⌜ r ≡ firstKept position kept ⌝ }
+{
+    if kept == 64 { position } else { kept }
+}
+
+// Puts `position` into the labels of the vertices below `n` that `row` leads to, and into their running values. Positions are put in ascending
+// order: the first one that a vertex gets is its smallest, the last one its largest.
+pub fn spread(
+    labels: &mut [u64; 64],
+    smallest: &mut [u8; 64],
+    largest: &mut [u8; 64],
+    row: u64,
+    position: Position,
+    n: usize,
+)
+    requires { ⌜ position .0 < 64 ⌝ }
+    ensures labels { λ r. ⌜ now (labels .exit) ≡ spreadTo row (position .0) n (now (labels .entry)) ⌝ }
+    ensures smallest { λ r. ⌜ now (smallest .exit) ≡ smallestTo row (position .0) n (now (smallest .entry)) ⌝ }
+    ensures largest { λ r. ⌜ now (largest .exit) ≡ largestTo row (position .0) n (now (largest .entry)) ⌝ }
 {
     let p = position.0;
+    let latest = p as u8;
     let mut rest = row;
     while rest != 0 {
         let v = bitset::smallest(rest);
         if v < n {
+            let first = first_kept(smallest[v], latest);
             labels[v] = bitset::insert(labels[v], p);
+            smallest[v] = first;
+            largest[v] = latest;
         }
         rest = bitset::without_smallest(rest);
     }
@@ -92,11 +115,13 @@ pub fn is_beaten(
     kind: Kind,
     rows: &[u64],
     labels: &[u64; 64],
+    smallest: &[u8; 64],
+    largest: &[u8; 64],
     placed: u64,
     free: u64,
     mine: Profile,
 ) -> bool
-    requires { ⌜ (mine ≡ profileOf (searchOf (kind .0)) (mine .label)) × Tallied (now rows) (now labels) placed ⌝ }
+    requires { ⌜ (mine ≡ profileOf (searchOf (kind .0)) (mine .label)) × Consistent (now rows) (now labels) (now smallest) (now largest) placed ⌝ }
     ensures { λ r. ⌜ r ≡ beatenIn (searchOf (kind .0)) (now (labels .entry)) free (mine .label) ⌝ }
 {
     let mut rest = free;
@@ -104,7 +129,7 @@ pub fn is_beaten(
         let u = bitset::smallest(rest) as u8;
         if is_ahead(
             kind,
-            profile_of(kind, rows, labels, placed, Vertex(u)),
+            profile_of(kind, rows, labels, smallest, largest, placed, Vertex(u)),
             mine,
         ) {
             return true;

@@ -5,12 +5,15 @@ ghost use mathlib.Core.Path.{_≡_};
 ghost use Prim.Native.Nat.{_<_};
 ghost use lib.ListN.{getD};
 ghost use Rattle.searches.specs.Kind.{searchOf};
-ghost use Rattle.labels.specs.Words.{tally, profileOf, Tallied};
+ghost use Rattle.labels.specs.Words.{tally, profileOf, Consistent};
 
-// What is compared of a vertex: its label, and for MCS how many positions the label holds. In every other search the count is 0.
+// What is compared of a vertex: its label, for MCS how many positions the label holds (in every other search the count is 0), and the label's
+// smallest and largest position, 64 where it has none.
 pub struct Profile {
     pub label: u64,
     pub count: usize,
+    pub smallest: u8,
+    pub largest: u8,
 }
 
 // How many ones are in the row of `vertex` and in `placed`. Where links go both ways, these are the placed vertices that lead to it.
@@ -22,24 +25,32 @@ fn count(rows: &[u64], placed: u64, vertex: Vertex) -> usize
     bitset::size(bitset::common(row, placed))
 }
 
-// What is compared of `vertex`. `labels` and the set `placed` are those of one moment.
+// What is compared of `vertex`. `labels`, the running values `smallest` and `largest`, and the set `placed` are those of one moment.
 pub fn profile_of(
     kind: Kind,
     rows: &[u64],
     labels: &[u64; 64],
+    smallest: &[u8; 64],
+    largest: &[u8; 64],
     placed: u64,
     vertex: Vertex,
 ) -> Profile
-    requires { ⌜ (vertex .0 < 64) × Tallied (now rows) (now labels) placed ⌝ }
+    requires { ⌜ (vertex .0 < 64) × Consistent (now rows) (now labels) (now smallest) (now largest) placed ⌝ }
     ensures { λ r. ⌜ r ≡ profileOf (searchOf (kind .0)) (getD (now (labels .entry)) (vertex .0) 0) ⌝ }
 {
     let v = vertex.0 as usize;
     let label = labels[v];
-    if kind.0 == Kind::MCS.0 {
-        return Profile {
-            label,
-            count: count(rows, placed, vertex),
-        };
+    let first = smallest[v];
+    let last = largest[v];
+    let counted = if kind.0 == Kind::MCS.0 {
+        count(rows, placed, vertex)
+    } else {
+        0
+    };
+    Profile {
+        label,
+        count: counted,
+        smallest: first,
+        largest: last,
     }
-    Profile { label, count: 0 }
 }

@@ -1,9 +1,9 @@
 -- The words after an ordering that grows by one vertex, and the vertex that they choose.
---   labels-agree, free-agree, set-agree   the words after the first j vertices depend on no others
---   labels-grown, free-grown, set-grown   the words after one vertex more
+--   kept-agree, labels-agree, free-agree, set-agree   the words after the first j vertices depend on no others
+--   kept-grown, labels-grown, free-grown, set-grown   the words after one vertex more
 --   choice-same                    the choice is the vertex that the words choose
 --   ordering-grown                 an ordering with an unplaced vertex behind it is an ordering
---   along-start, along-next        words along an ordering, from its start on;   along-tallied   what is counted there
+--   along-start, along-next        words along an ordering, from its start on;   along-consistent   they agree with one another
 -- Assumes nothing.
 use mathlib.Core.Path.{_≡_, refl, sym, ap, ap₂, _∙_, subst}
 use mathlib.Core.Bool.{Bool}
@@ -25,19 +25,22 @@ use Rattle.searches.specs.CarryOn.{choice}
 use Rattle.searches.proofs.Ordering.{Agree, agree-sym, agree-fewer, take-agree, placed-in, ordering-agree, length-grown, grown-agree, grown-last}
 use Rattle.searches.proofs.Run.{offered-out}
 use Rattle.searches.proofs.CarryOn.{chosen-offered}
-use Rattle.labels.specs.Words.{Tallied, spreadTo, openIn, chosenIn}
-use Rattle.steps.specs.Steps.{labelsAfter, freeAfter, placedAfter, BothWays, Along}
+use Rattle.labels.specs.Words.{Consistent, spreadBy, spreadTo, firstKept, smallestTo, largestTo, openIn, chosenIn}
+use Rattle.steps.specs.Steps.{keptAfter, labelsAfter, smallestAfter, largestAfter, freeAfter, placedAfter, BothWays, Along}
 use Rattle.steps.proofs.Representation.{open-offered}
-use Rattle.steps.proofs.Tallying.{tallied-after}
+use Rattle.steps.proofs.Tracking.{consistent-after}
 
 -- ---- only the first j vertices matter
 
+pub kept-agree : (put : ℕ → ℕ → ℕ) (start : ℕ) (rows w w′ : List ℕ) (j : ℕ) → Agree j w w′ → keptAfter put start rows w j ≡ keptAfter put start rows w′ j
+unfolding keptAfter
+kept-agree put start rows w w′ zero a = refl
+kept-agree put start rows w w′ (suc j) a =
+    ap₂ (λ (v : ℕ) (kept : List ℕ). spreadBy (put j) (getD rows v 0) (length rows) kept) (a j (omega arith))
+    (kept-agree put start rows w w′ j (agree-fewer j (suc j) w w′ (omega arith) a))
+
 pub labels-agree : (rows w w′ : List ℕ) (j : ℕ) → Agree j w w′ → labelsAfter rows w j ≡ labelsAfter rows w′ j
-unfolding labelsAfter
-labels-agree rows w w′ zero a = refl
-labels-agree rows w w′ (suc j) a =
-    ap₂ (λ (v : ℕ) (labels : List ℕ). spreadTo (getD rows v 0) j (length rows) labels) (a j (omega arith))
-    (labels-agree rows w w′ j (agree-fewer j (suc j) w w′ (omega arith) a))
+labels-agree rows w w′ j a = kept-agree (λ q x. inserted x q) 0 rows w w′ j a
 
 pub free-agree : (n : ℕ) (w w′ : List ℕ) (j : ℕ) → Agree j w w′ → freeAfter n w j ≡ freeAfter n w′ j
 unfolding freeAfter
@@ -52,12 +55,16 @@ set-agree w w′ (suc j) a =
     ap₂ (λ (set v : ℕ). inserted set v) (set-agree w w′ j (agree-fewer j (suc j) w w′ (omega arith) a)) (a j (omega arith))
 
 module _ (w : List ℕ) (v : ℕ) where
+  pub kept-grown : (put : ℕ → ℕ → ℕ) (start : ℕ) (rows : List ℕ)
+      → keptAfter put start rows (w ++ v ∷ []) (suc (length w)) ≡ spreadBy (put (length w)) (getD rows v 0) (length rows) (keptAfter put start rows w (length w))
+  unfolding keptAfter
+  kept-grown put start rows =
+      ap₂ (λ (x : ℕ) (kept : List ℕ). spreadBy (put (length w)) (getD rows x 0) (length rows) kept) (grown-last w v)
+      (kept-agree put start rows (w ++ v ∷ []) w (length w) (grown-agree w v))
+
   pub labels-grown : (rows : List ℕ)
       → labelsAfter rows (w ++ v ∷ []) (suc (length w)) ≡ spreadTo (getD rows v 0) (length w) (length rows) (labelsAfter rows w (length w))
-  unfolding labelsAfter
-  labels-grown rows =
-      ap₂ (λ (x : ℕ) (labels : List ℕ). spreadTo (getD rows x 0) (length w) (length rows) labels) (grown-last w v)
-      (labels-agree rows (w ++ v ∷ []) w (length w) (grown-agree w v))
+  labels-grown rows = kept-grown (λ q x. inserted x q) 0 rows
 
   pub free-grown : (n : ℕ) → freeAfter n (w ++ v ∷ []) (suc (length w)) ≡ removed (freeAfter n w (length w)) v
   unfolding freeAfter
@@ -105,17 +112,18 @@ module _ (s : Search) (rows : List ℕ) (small : length rows ≤ 64) where
       let x = offered-out s arc n w (length w) (choice s arc n t w (length w)) (chosen-offered s arc n t names w o l) in
       (subst (λ (u : ℕ). u < n) (sym at-v) (x .vertex), λ p. x .unplaced (subst (λ (u : ℕ). T (placed w (length w) u)) at-v p))
 
-  pub along-next : (t : List ℕ) → IsFullOrdering n t → {p v set free : ℕ} {labels : List ℕ} (labels′ : List ℕ) (set′ free′ : ℕ) → Along rows p labels set free → p < n
-      → v ≡ chosenIn s labels free t → labels′ ≡ spreadTo (getD rows v 0) p n labels → set′ ≡ inserted set v → free′ ≡ removed free v
-      → Along rows (p + 1) labels′ set′ free′
-  along-next t names {p} {v} {set} {free} {labels} labels′ set′ free′ a l at-v at-labels at-set at-free =
-      subst (λ (m : ℕ). Along rows m labels′ set′ free′) (ap suc (a .long) ∙ sym (add-one p)) (record {
+  pub along-next : (t : List ℕ) → IsFullOrdering n t → {p v set free : ℕ} {labels smallest largest : List ℕ} (labels′ smallest′ largest′ : List ℕ) (set′ free′ : ℕ)
+      → Along rows p labels smallest largest set free → p < n → v ≡ chosenIn s labels free t → labels′ ≡ spreadTo (getD rows v 0) p n labels
+      → smallest′ ≡ smallestTo (getD rows v 0) p n smallest → largest′ ≡ largestTo (getD rows v 0) p n largest → set′ ≡ inserted set v → free′ ≡ removed free v
+      → Along rows (p + 1) labels′ smallest′ largest′ set′ free′
+  along-next t names {p} {v} {set} {free} {labels} {smallest} {largest} labels′ smallest′ largest′ set′ free′ a l at-v at-labels at-smallest at-largest at-set at-free =
+      subst (λ (m : ℕ). Along rows m labels′ smallest′ largest′ set′ free′) (ap suc (a .long) ∙ sym (add-one p)) (record {
         walk = w ++ v ∷ [];
         long = length-grown w v;
         ordering = ordering-grown w v o (fresh .0) (fresh .1);
-        labelled =
-            at-labels ∙ ap₂ (λ (m : ℕ) (ls : List ℕ). spreadTo (getD rows v 0) m n ls) (sym (a .long)) (after (λ m. labelsAfter rows w m) (a .labelled))
-            ∙ sym (labels-grown w v rows);
+        labelled = grown (λ q x. inserted x q) 0 at-labels (a .labelled);
+        firsts = grown (λ q x. firstKept q x) 64 at-smallest (a .firsts);
+        lasts = grown (λ q x. q) 64 at-largest (a .lasts);
         set = at-set ∙ ap (λ (x : ℕ). inserted x v) (after (λ m. placedAfter w m) (a .set)) ∙ sym (set-grown w v);
         unplaced = at-free ∙ ap (λ (x : ℕ). removed x v) (after (λ m. freeAfter n w m) (a .unplaced)) ∙ sym (free-grown w v n);
       })
@@ -129,6 +137,13 @@ module _ (s : Search) (rows : List ℕ) (small : length rows ≤ 64) where
       after : {A : Type 0} {x : A} (f : ℕ → A) → x ≡ f p → x ≡ f (length w)
       after f e = e ∙ ap f (sym (a .long))
 
+      -- what is kept, with v placed
+      grown : (put : ℕ → ℕ → ℕ) (start : ℕ) {kept kept′ : List ℕ} → kept′ ≡ spreadBy (put p) (getD rows v 0) n kept → kept ≡ keptAfter put start rows w p
+          → kept′ ≡ keptAfter put start rows (w ++ v ∷ []) (suc (length w))
+      grown put start e k =
+          e ∙ ap₂ (λ (m : ℕ) (ls : List ℕ). spreadBy (put m) (getD rows v 0) n ls) (sym (a .long)) (after (λ m. keptAfter put start rows w m) k)
+          ∙ sym (kept-grown w v put start rows)
+
       fresh : (v < n) × (T (placed w (length w) v) → ⊥)
       fresh =
           chosen-fresh t w names o (omega (arith, a .long))
@@ -137,12 +152,15 @@ module _ (s : Search) (rows : List ℕ) (small : length rows ≤ 64) where
 
 module _ (rows : List ℕ) where
   -- the words after the first k vertices of a list are along an ordering
-  pub along-start : (w : List ℕ) (k : ℕ) → IsOrdering (length rows) w k → Along rows k (labelsAfter rows w k) (placedAfter w k) (freeAfter (length rows) w k)
+  pub along-start : (w : List ℕ) (k : ℕ) → IsOrdering (length rows) w k
+      → Along rows k (labelsAfter rows w k) (smallestAfter rows w k) (largestAfter rows w k) (placedAfter w k) (freeAfter (length rows) w k)
   along-start w k o = record {
     walk = take k w;
     long = length-take-le k w (o .long);
     ordering = ordering-agree (length rows) (take k w) (omega (arith, length-take-le k w (o .long))) same o;
     labelled = labels-agree rows w (take k w) k same;
+    firsts = kept-agree (λ q x. firstKept q x) 64 rows w (take k w) k same;
+    lasts = kept-agree (λ q x. q) 64 rows w (take k w) k same;
     set = set-agree w (take k w) k same;
     unplaced = free-agree (length rows) w (take k w) k same;
   }
@@ -150,7 +168,7 @@ module _ (rows : List ℕ) where
       same : Agree k w (take k w)
       same = agree-sym k (take k w) w (take-agree k w)
 
-  pub along-tallied : length rows ≤ 64 → BothWays rows → {p set free : ℕ} {labels : List ℕ} → Along rows p labels set free → Tallied rows labels set
-  along-tallied small both-ways {p} {set} {free} {labels} a =
-      subst (λ (x : ℕ). Tallied rows labels x) (sym (a .set))
-      (subst (λ (ls : List ℕ). Tallied rows ls (placedAfter (a .walk) p)) (sym (a .labelled)) (tallied-after rows (a .walk) p small (a .ordering) both-ways p (omega arith)))
+  pub along-consistent : length rows ≤ 64 → BothWays rows → {p set free : ℕ} {labels smallest largest : List ℕ} → Along rows p labels smallest largest set free
+      → Consistent rows labels smallest largest set
+  along-consistent small both-ways {p} a =
+      consistent-after rows (a .walk) p small (a .ordering) both-ways p (omega arith) (a .labelled) (a .firsts) (a .lasts) (a .set)

@@ -1,5 +1,6 @@
 pub mod Representation
 pub mod Tallying
+pub mod Tracking
 pub mod Growing
 pub mod Replaying
 pub mod Completing

@@ -1,9 +1,9 @@
 -- The words hold the labels and the unplaced vertices of searches/, and what is computed on them is what is defined there.
 --   suc-split                                the positions below one more
 --   cut-same, cut-below                      a set that ends at a bound;   meets-cut, outranks-cut   it is compared below it
---   spread-length, spread-at                 a position put into the labels of the vertices of a row
---   member-joined                            what is then in one label
---   labels-length, label-members             labelsAfter: 64 words, which hold the labels
+--   kept-length                              keptAfter: 64 values;   kept-start, kept-next, kept-beyond   vertex by vertex
+--   member-joined                            what is in a label that a position may join
+--   label-members                            labelsAfter: words which hold the labels
 --   free-word, free-members                  freeAfter: a word, which holds the unplaced vertices;   free-unplaced, free-vertex
 --   after-covers, reached-covers             reachedAfter: nobody else has a position in its label
 --   ahead-same, beaten-same, open-offered    who is ahead, who is beaten, who is offered
@@ -15,8 +15,7 @@ use mathlib.Core.List.{List}
 use Prim.Native.Nat.{ℕ, zero, suc, _^_, _≤_, _<_}
 use native.Mathlib.Omega.{arith}
 use lib.Dec.{T, ltb, eqb, ltb→lt, lt→ltb, eqb→eq, eqb-refl, leb·suc-zero}
-use lib.ListN.{length, getD, length-set, length-replicate, getD-replicate}
-use lib.Seq.{getD-set-same, getD-set-other}
+use lib.ListN.{length, getD, length-replicate, getD-replicate}
 use Rattle.bitset.specs.Below.{anyBelow}
 use Rattle.bitset.specs.Word.{member, inserted}
 use Rattle.bitset.proofs.Tests.{and-same, and-in, and-out, and-true, or-inl, or-inr, or-out, same-test, is-true, below-suc}
@@ -30,10 +29,10 @@ use Rattle.searches.specs.Run.{offered}
 use Rattle.searches.specs.Violation.{Condition, noneExcuses, counted, condition, meets}
 use Rattle.searches.proofs.Reason.{Reason, meets-in, meets-out, outranks→reason, reason→outranks}
 use Rattle.searches.proofs.Ordering.{ordering-fits}
-use Rattle.labels.specs.Words.{aheadIn, joinedIn, spreadTo, beatenIn, openIn, Covers}
-use Rattle.labels.proofs.Spreading.{spread-above}
+use Rattle.labels.specs.Words.{changedBy, aheadIn, joinedIn, beatenIn, openIn, Covers}
+use Rattle.labels.proofs.Spreading.{spread-above, spread-length, spread-at}
 use Rattle.labels.proofs.Reached.{covers-spread}
-use Rattle.steps.specs.Steps.{labelsAfter, freeAfter, reachedAfter}
+use Rattle.steps.specs.Steps.{keptAfter, labelsAfter, freeAfter, reachedAfter}
 
 -- ---- laws of tests
 
@@ -113,31 +112,33 @@ module _ (j m : ℕ) (c b c′ b′ : ℕ → Bool) (l : j ≤ m) (c-cut : (p : 
             meets-out m c b own (subst (λ (x : Bool). T x) (sym (meets-cut own)) (meets-in j c′ b′ own (r .unexcused)));
       }
 
--- ---- one position put into the labels
+-- ---- what is kept, vertex by vertex
 
-module _ (row p : ℕ) (labels : List ℕ) where
-  pub spread-length : (i : ℕ) → length (spreadTo row p i labels) ≡ length labels
-  unfolding spreadTo
-  spread-length zero = refl
-  spread-length (suc i) = length-set (spreadTo row p i labels) i _ ∙ spread-length i
+module _ (put : ℕ → ℕ → ℕ) (start : ℕ) (rows w : List ℕ) where
+  pub kept-length : (j : ℕ) → length (keptAfter put start rows w j) ≡ 64
+  unfolding keptAfter
+  kept-length zero = length-replicate {A = ℕ} 64 start
+  kept-length (suc j) = spread-length (put j) (getD rows (at w j) 0) (keptAfter put start rows w j) (length rows) ∙ kept-length j
 
-  pub spread-at : (i v : ℕ) → i ≤ length labels → v < i → getD (spreadTo row p i labels) v 0 ≡ joinedIn row p v (getD labels v 0)
-  unfolding spreadTo
-  spread-at zero v h l = absurd (omega arith)
-  spread-at (suc i) v h l = go (spread-at i v (omega arith)) (below-suc i v l)
-    where
-      go : (v < i → getD (spreadTo row p i labels) v 0 ≡ joinedIn row p v (getD labels v 0)) → (v < i) ⊎ (v ≡ i)
-          → getD (spreadTo row p (suc i) labels) v 0 ≡ joinedIn row p v (getD labels v 0)
-      go rest (inl g) = getD-set-other (spreadTo row p i labels) i v _ 0 (omega arith) ∙ rest g
-      go rest (inr e) =
-          subst (λ (x : ℕ). getD (spreadTo row p (suc i) labels) x 0 ≡ joinedIn row p x (getD labels x 0)) (sym e)
-          (getD-set-same (spreadTo row p i labels) i _ 0 (omega (arith, spread-length i)) ∙ ap (joinedIn row p i) (spread-above row p labels i i (omega arith)))
+  pub kept-start : (v : ℕ) → v < 64 → getD (keptAfter put start rows w 0) v 0 ≡ start
+  unfolding keptAfter
+  kept-start v l = getD-replicate 64 v start 0 l
+
+  pub kept-next : length rows ≤ 64 → (j v : ℕ) → v < length rows
+      → getD (keptAfter put start rows w (suc j)) v 0 ≡ changedBy (put j) (getD rows (at w j) 0) v (getD (keptAfter put start rows w j) v 0)
+  unfolding keptAfter
+  kept-next small j v l = spread-at (put j) (getD rows (at w j) 0) (keptAfter put start rows w j) (length rows) v (omega (arith, kept-length j)) l
+
+  pub kept-beyond : (j v : ℕ) → v < 64 → length rows ≤ v → getD (keptAfter put start rows w j) v 0 ≡ start
+  unfolding keptAfter
+  kept-beyond zero v l h = getD-replicate 64 v start 0 l
+  kept-beyond (suc j) v l h = spread-above (put j) (getD rows (at w j) 0) (keptAfter put start rows w j) (length rows) v h ∙ kept-beyond j v l h
 
 -- ---- the labels, and the unplaced vertices
 
 -- what is in a label after position q was put in where v is in the row
 pub member-joined : (row q v x : ℕ) → q < 64 → (p : ℕ) → member (joinedIn row q v x) p ≡ ((eqb q p && member row v) || member x p)
-unfolding joinedIn
+unfolding changedBy
 member-joined row q v x l p = go (member row v)
   where
     out : (b : Bool) → false ≡ (b && false)
@@ -149,11 +150,6 @@ member-joined row q v x l p = go (member row v)
     go false = ap (λ (b : Bool). b || member x p) (out (eqb q p))
 
 module _ (rows w : List ℕ) where
-  pub labels-length : (j : ℕ) → length (labelsAfter rows w j) ≡ 64
-  unfolding labelsAfter
-  labels-length zero = length-replicate {A = ℕ} 64 0
-  labels-length (suc j) = spread-length (getD rows (at w j) 0) j (labelsAfter rows w j) (length rows) ∙ labels-length j
-
   pub free-word : (j : ℕ) → freeAfter (length rows) w j < 2 ^ 64
   unfolding freeAfter
   free-word zero = word.fullBelow-word (length rows)
@@ -181,19 +177,19 @@ module _ (rows w : List ℕ) where
 module _ (rows w : List ℕ) (k : ℕ) (small : length rows ≤ 64) (o : IsOrdering (length rows) w k) where
   pub label-members : (j : ℕ) → j ≤ k → (v : ℕ) → v < length rows → (p : ℕ)
       → member (getD (labelsAfter rows w j) v 0) p ≡ (ltb p j && label (arcs rows) w v p)
-  unfolding labelsAfter label arcs
+  unfolding label arcs
   label-members zero h v l p =
-      ap (λ (x : ℕ). member x p) (getD-replicate 64 v 0 0 (omega arith)) ∙ word.member-zero p
+      ap (λ (x : ℕ). member x p) (kept-start (λ q x. inserted x q) 0 rows w v (omega arith)) ∙ word.member-zero p
       ∙ ap (λ (b : Bool). b && label (arcs rows) w v p) (sym (leb·suc-zero p))
   label-members (suc j) h v l p =
       let row = getD rows (at w j) 0 in
       let labels = labelsAfter rows w j in
-      ap (λ (x : ℕ). member x p) (spread-at row j labels (length rows) v (omega (arith, labels-length rows w j)) l)
+      ap (λ (x : ℕ). member x p) (kept-next (λ q x. inserted x q) 0 rows w small j v l)
       ∙ member-joined row j v (getD labels v 0) (omega (arith, ordering-fits (length rows) o)) p
       ∙ ap (λ (b : Bool). (eqb j p && member row v) || b) (label-members j (omega arith) v l p) ∙ suc-split j p (label (arcs rows) w v)
 
 pub after-covers : (rows w : List ℕ) (j : ℕ) → Covers (reachedAfter rows w j) (labelsAfter rows w j)
-unfolding reachedAfter labelsAfter
+unfolding reachedAfter keptAfter
 after-covers rows w zero = λ v l out. getD-replicate 64 v 0 0 l
 after-covers rows w (suc j) =
     covers-spread (labelsAfter rows w j) (reachedAfter rows w j) (getD rows (at w j) 0) j (length rows) (after-covers rows w j) refl refl

@@ -1,5 +1,8 @@
--- An ordering placed step by step on labels that are kept as words.
+-- An ordering placed step by step on labels that are kept as words, and on the running values beside them.
+--   keptAfter put start rows w j  what is kept of the vertices after the first j vertices of w: `start` at first, changed by `put p` where the one
+--                                 at position p leads to
 --   labelsAfter rows w j          the labels after the first j vertices of w
+--   smallestAfter, largestAfter   the running values after the first j vertices of w, as bytes                  [02, K3: smallest, largest place]
 --   freeAfter n w j               the vertices below n that are not among the first j of w
 --   reachedAfter rows w j         the vertices that the first j of w lead to
 --   placedAfter w j               the first j vertices of w                                             [01: the placed mask]
@@ -13,13 +16,14 @@
 --   lastOf s labels front i mine w j k    the first such c: by position behind j, where there is none by number
 --   fillIn s rows t m p labels free   the m vertices chosen from position p on
 --   BothWays rows                 every link goes both ways
---   Replayable rows w k labels    the first k entries of w are distinct vertices of a two-way graph of at most 64, and the labels are empty
---   Searchable rows w k labels placed free j   the first k entries of w are vertices, j is one of these positions, free the vertices that are
---                                 unplaced at its turn, and the labels are as large as `placed` says
+--   Replayable rows w k labels smallest largest   the first k entries of w are distinct vertices of a two-way graph of at most 64, the labels
+--                                 are empty, and there is no smallest and no largest position
+--   Searchable rows w k labels smallest largest placed free j   the first k entries of w are vertices, j is one of these positions, free the
+--                                 vertices that are unplaced at its turn, and what is kept beside the labels agrees with them
 --   Positioned w k j i            w has k positions, j is one of them, and i is the number of a bit of a label
---   Along rows p labels placed free   the words are those after the p vertices of an ordering
---   Fillable rows t tail k labels placed free reached   t is a tie-break, tail has room for the vertices from position k on, the words are those
---                                 after k vertices, and nobody outside `reached` has a label
+--   Along rows p labels smallest largest placed free   the words are those after the p vertices of an ordering
+--   Fillable rows t tail k labels smallest largest placed free reached   t is a tie-break, tail has room for the vertices from position k on,
+--                                 the words are those after k vertices, and nobody outside `reached` has a label
 use Prim.Native.Nat.{ℕ, zero, suc, _+_, _-_, _≤_, _<_}
 use mathlib.Core.Path.{_≡_}
 use mathlib.Core.Bool.{Bool, cond, not, _&&_}
@@ -31,11 +35,20 @@ use Rattle.bitset.specs.Word.{member, inserted, removed, united, common, fullBe
 use Rattle.searches.specs.Kind.{Search}
 use Rattle.searches.specs.Ordering.{arcs, at, IsOrdering, IsFullOrdering}
 use Rattle.searches.specs.Violation.{third, Verdict, fails}
-use Rattle.labels.specs.Words.{Tallied, unexcusedIn, spreadTo, beatenIn, chosenIn, Covers}
+use Rattle.labels.specs.Words.{Consistent, unexcusedIn, spreadBy, spreadTo, firstKept, beatenIn, chosenIn, Covers}
 
-unfoldable pub labelsAfter : List ℕ → List ℕ → ℕ → List ℕ
-labelsAfter rows w zero = replicate 64 0
-labelsAfter rows w (suc j) = spreadTo (getD rows (at w j) 0) j (length rows) (labelsAfter rows w j)
+unfoldable pub keptAfter : (ℕ → ℕ → ℕ) → ℕ → List ℕ → List ℕ → ℕ → List ℕ
+keptAfter put start rows w zero = replicate 64 start
+keptAfter put start rows w (suc j) = spreadBy (put j) (getD rows (at w j) 0) (length rows) (keptAfter put start rows w j)
+
+abbrev pub labelsAfter : List ℕ → List ℕ → ℕ → List ℕ
+labelsAfter rows w j = keptAfter (λ p x. inserted x p) 0 rows w j
+
+abbrev pub smallestAfter : List ℕ → List ℕ → ℕ → List ℕ
+smallestAfter rows w j = keptAfter (λ p x. firstKept p x) 64 rows w j
+
+abbrev pub largestAfter : List ℕ → List ℕ → ℕ → List ℕ
+largestAfter rows w j = keptAfter (λ p x. p) 64 rows w j
 
 unfoldable pub freeAfter : ℕ → List ℕ → ℕ → ℕ
 freeAfter n w zero = fullBelow n
@@ -97,7 +110,7 @@ module _ (s : Search) where
 abbrev pub BothWays : List ℕ → Type 0
 BothWays rows = (u v : ℕ) → u < length rows → v < length rows → arcs rows u v ≡ arcs rows v u
 
-pub record Replayable (rows w : List ℕ) (k : ℕ) (labels : List ℕ) : Type 0 where
+pub record Replayable (rows w : List ℕ) (k : ℕ) (labels smallest largest : List ℕ) : Type 0 where
   pub long : k ≤ length w
   pub fits : k ≤ length rows
   pub small : length rows ≤ 64
@@ -105,34 +118,38 @@ pub record Replayable (rows w : List ℕ) (k : ℕ) (labels : List ℕ) : Type 0
   pub distinct : (p q : ℕ) → p < q → q < k → at w p ≡ at w q → ⊥
   pub both-ways : BothWays rows
   pub empty : labels ≡ replicate 64 0
+  pub no-smallest : smallest ≡ replicate 64 64
+  pub no-largest : largest ≡ replicate 64 64
 
-pub record Searchable (rows w : List ℕ) (k : ℕ) (labels : List ℕ) (placed free j : ℕ) : Type 0 where
+pub record Searchable (rows w : List ℕ) (k : ℕ) (labels smallest largest : List ℕ) (placed free j : ℕ) : Type 0 where
   pub long : k ≤ length w
   pub inside : j < k
   pub fits : k ≤ length rows
   pub small : length rows ≤ 64
   pub vertices : (p : ℕ) → p < k → at w p < length rows
   pub unplaced : free ≡ freeAfter (length rows) w j
-  pub tallied : Tallied rows labels placed
+  pub consistent : Consistent rows labels smallest largest placed
 
 pub record Positioned (w : List ℕ) (k j i : ℕ) : Type 0 where
   pub long : k ≤ length w
   pub inside : j < k
   pub bit : i < 64
 
-pub record Along (rows : List ℕ) (p : ℕ) (labels : List ℕ) (placed free : ℕ) : Type 0 where
+pub record Along (rows : List ℕ) (p : ℕ) (labels smallest largest : List ℕ) (placed free : ℕ) : Type 0 where
   pub walk : List ℕ
   pub long : length walk ≡ p
   pub ordering : IsOrdering (length rows) walk p
   pub labelled : labels ≡ labelsAfter rows walk p
+  pub firsts : smallest ≡ smallestAfter rows walk p
+  pub lasts : largest ≡ largestAfter rows walk p
   pub set : placed ≡ placedAfter walk p
   pub unplaced : free ≡ freeAfter (length rows) walk p
 
-pub record Fillable (rows t tail : List ℕ) (k : ℕ) (labels : List ℕ) (placed free reached : ℕ) : Type 0 where
+pub record Fillable (rows t tail : List ℕ) (k : ℕ) (labels smallest largest : List ℕ) (placed free reached : ℕ) : Type 0 where
   pub fits : k ≤ length rows
   pub small : length rows ≤ 64
   pub both-ways : BothWays rows
   pub names : IsFullOrdering (length rows) t
   pub room : length rows - k ≤ length tail
-  pub along : Along rows k labels placed free
+  pub along : Along rows k labels smallest largest placed free
   pub covers : Covers reached labels

@@ -9,8 +9,8 @@ ghost use lib.ListN.{length, drop};
 ghost use Rattle.searches.specs.Kind.{searchOf};
 ghost use Rattle.steps.specs.Steps.{fillIn, Fillable};
 
-// Writes the vertices that carry on from position `k` into `tail`, whose first bytes are the positions from `k` on; `labels`, `placed`,
-// `free` and `reached` are those after the first `k`.
+// Writes the vertices that carry on from position `k` into `tail`, whose first bytes are the positions from `k` on; `labels`, `smallest`,
+// `largest`, `placed`, `free` and `reached` are those after the first `k`.
 pub fn fill(
     kind: Kind,
     rows: &[u64],
@@ -18,11 +18,13 @@ pub fn fill(
     tail: &mut [u8],
     k: usize,
     labels: &mut [u64; 64],
+    smallest: &mut [u8; 64],
+    largest: &mut [u8; 64],
     placed: u64,
     free: u64,
     reached: u64,
 )
-    requires { ⌜ Fillable (now rows) (now «tie_break») (now tail) k (now labels) placed free reached ⌝ }
+    requires { ⌜ Fillable (now rows) (now «tie_break») (now tail) k (now labels) (now smallest) (now largest) placed free reached ⌝ }
     ensures { λ r. ⌜
         now (tail .exit)
         ≡ fillIn (searchOf (kind .0)) (now (rows .entry)) (now («tie_break» .entry)) (length (now (rows .entry)) - k) k (now (labels .entry)) free
@@ -34,10 +36,20 @@ pub fn fill(
     let mut met = reached;
     let count = rows.len() - k;
     for i in 0..count {
-        let v = labels::choice::choose(kind, rows, labels, taken, unplaced, met, tie_break);
+        let v = labels::choice::choose(
+            kind,
+            rows,
+            labels,
+            smallest,
+            largest,
+            taken,
+            unplaced,
+            met,
+            tie_break,
+        );
         tail[i] = v.0;
         let row = row_of(rows, v);
-        labels::spread(labels, row, Position(k + i), rows.len());
+        labels::spread(labels, smallest, largest, row, Position(k + i), rows.len());
         taken = bitset::insert(taken, v.0 as usize);
         unplaced = bitset::remove(unplaced, v.0 as usize);
         met = bitset::union(met, row);

@@ -4,7 +4,7 @@
 --   well-formed-out, well-formed-in  wellFormed: condition by condition
 --   surveyed-broken, surveyed-judged what survey hands back where a test fails, and where judge decides
 --   surveyed-passes, surveyed-words  whether the open walk is well formed, and the words of the moment where it is
---   surveyed-tallied                 what is counted with these words is the size of the labels
+--   surveyed-consistent              what these words keep beside the labels agrees with them
 --   open-offers, free-offers         the words of the moment decide who is offered and who is placed
 -- Assumes nothing.
 use Prim.Native.Nat.{ℕ, _≤_, _<_}
@@ -24,10 +24,10 @@ use Rattle.searches.specs.Violation.{judge}
 use Rattle.searches.specs.Answer.{isPass, judgeAnswer}
 use Rattle.searches.proofs.Ordering.{ordering-fits}
 use Rattle.searches.proofs.Answers.{passes-accepts, accepted-ordering, ordering-accepted, judge-accepted, isPass-in, isPass-out}
-use Rattle.labels.specs.Words.{Tallied, openIn}
-use Rattle.steps.specs.Steps.{labelsAfter, placedAfter, freeAfter}
+use Rattle.labels.specs.Words.{Consistent, openIn}
+use Rattle.steps.specs.Steps.{labelsAfter, smallestAfter, largestAfter, placedAfter, freeAfter}
 use Rattle.steps.proofs.Representation.{open-offered, free-unplaced}
-use Rattle.steps.proofs.Tallying.{tallied-after}
+use Rattle.steps.proofs.Tracking.{consistent-after}
 use Rattle.engine.specs.declared.after.Moment.{Moment}
 use Rattle.engine.specs.Moments.{noMoment, momentOf, momentAfter}
 use Rattle.engine.proofs.Calls.{valid-both-ways}
@@ -151,17 +151,19 @@ module _ (t : Traversal) (rows-full : length (t .rows) ≡ 64) (ordering-full : 
         ap (λ (m : Moment). m .free) there ∙ ap₂ (λ (m j : ℕ). freeAfter m (walk t) j) n k,
       )
 
-  pub surveyed-tallied : {r : Moment} → r ≡ surveyed t → T (wellFormed t) → Tallied (plan t) (r .labels) (r .placed)
+  pub surveyed-consistent : {r : Moment} → r ≡ surveyed t → T (wellFormed t) → Consistent (plan t) (r .labels) (r .smallest) (r .largest) (r .placed)
   unfolding surveyed momentOf
-  surveyed-tallied {r} is x =
+  surveyed-consistent {r} is x =
       let f = well-formed-out x in
       let n = plan-length (f .points) in
       let k = walk-length (omega (arith, f .points, ordering-fits (t .n) (f .distinct))) in
       let there = is ∙ cond-yes (wellFormed t) (momentOf (plan t) (walk t)) noMoment x in
       let distinct = subst (λ (m : ℕ). IsOrdering m (walk t) (t .k)) (sym n) (f .distinct) in
-      let counted = tallied-after (plan t) (walk t) (t .k) (omega (arith, f .points)) distinct (valid-both-ways (t .kind .0) (plan t) (f .valid)) (t .k) (omega arith) in
-      subst (λ (m : Moment). Tallied (plan t) (m .labels) (m .placed)) (sym there)
-      (subst (λ (j : ℕ). Tallied (plan t) (labelsAfter (plan t) (walk t) j) (placedAfter (walk t) j)) (sym k) counted)
+      consistent-after (plan t) (walk t) (t .k) (omega (arith, f .points)) distinct (valid-both-ways (t .kind .0) (plan t) (f .valid)) (t .k) (omega arith)
+      (ap (λ (m : Moment). m .labels) there ∙ ap (λ (j : ℕ). labelsAfter (plan t) (walk t) j) k)
+      (ap (λ (m : Moment). m .smallest) there ∙ ap (λ (j : ℕ). smallestAfter (plan t) (walk t) j) k)
+      (ap (λ (m : Moment). m .largest) there ∙ ap (λ (j : ℕ). largestAfter (plan t) (walk t) j) k)
+      (ap (λ (m : Moment). m .placed) there ∙ ap (λ (j : ℕ). placedAfter (walk t) j) k)
 
   module _ (x : WellFormed t) {labels : List ℕ} {free : ℕ} (labelled : labels ≡ labelsAfter (plan t) (walk t) (t .k))
       (unplaced : free ≡ freeAfter (t .n) (walk t) (t .k)) where

@@ -3,7 +3,8 @@
 --   plan t, walk t                   its graph's rows, and its ordering                                            [01: plan, walk]
 --   usedAt m l i, usedFrom m l       entry i of l is behind the first m and not 0; some of the 64 is
 --   wellFormed t                     the test;   WellFormed t   the same condition by condition                    [01: well formed]
---   surveyed t                       the placed and the unplaced vertices and the labels after the walk; none and empty where t is not well formed
+--   surveyed t                       the placed and the unplaced vertices, the labels and the running values after the walk; none and empty where
+--                                    t is not well formed
 --   offers t v                       v is offered after the walk                                                   [01: offered]
 --   setBelow n f                     the numbers below n at which f holds, as a word
 --   placeTests, takeBackTests        what is refused: numbers and tests in 01's order                              [01: from the state]

@@ -87,10 +87,15 @@ impl Traversal {
                 outcome: Outcome::Refused(Refusal::MalformedTraversal),
             };
         }
+        let labels = moment.labels;
+        let smallest = moment.smallest;
+        let largest = moment.largest;
         let set = offers::open_below(
             kind,
             &rows[..n],
-            &moment.labels,
+            &labels,
+            &smallest,
+            &largest,
             moment.placed,
             moment.free,
             n,

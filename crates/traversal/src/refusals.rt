@@ -36,10 +36,15 @@ pub fn place_refusal(
     if !bitset::contains(moment.free, v) {
         return Outcome::Refused(Refusal::AlreadyPlaced);
     }
+    let labels = moment.labels;
+    let smallest = moment.smallest;
+    let largest = moment.largest;
     if !offers::is_open(
         kind,
         &rows[..n],
-        &moment.labels,
+        &labels,
+        &smallest,
+        &largest,
         moment.placed,
         moment.free,
         vertex,

@@ -32,8 +32,8 @@ fn entry_used_from(ordering: &[u8], k: usize) -> bool
     false
 }
 
-// Whether the open walk of these parts is well formed; where it is, the labels and the placed and the unplaced vertices of the moment, else
-// empty labels and no vertex. Its walk is judged once.
+// Whether the open walk of these parts is well formed; where it is, the labels, the running values and the placed and the unplaced vertices of
+// the moment, else empty labels, no value and no vertex. Its walk is judged once.
 pub fn survey(kind: Kind, n: usize, rows: &[u64], k: usize, ordering: &[u8]) -> Moment
     requires { ⌜ (length (now rows) ≡ 64) × (length (now ordering) ≡ 64) ⌝ }
     ensures { λ r. ⌜ r ≡ surveyed (state kind n (now (rows .entry)) k (now (ordering .entry))) ⌝ }

@@ -10,7 +10,8 @@ use borrow.Author.Needs.{needs}
 use Rattle.bitset.specs.Word.{member}
 use Rattle.searches.specs.Kind.{Search, searchOf}
 use Rattle.labels.specs.Words.{aheadIn}
-use Rattle.labels.proofs.Comparison.{bfs-words, dfs-words, lexBfs-words, lexDfs-words, mns-words, generic-words, of-kind, searchOf-other}
+use Rattle.labels.proofs.Comparison.{lexBfs-words, lexDfs-words, mns-words, generic-words, of-kind, searchOf-other}
+use Rattle.labels.proofs.Extremes.{bfs-ahead, dfs-ahead}
 use Rattle.labels.proofs.Profiles.{mcs-words}
 use Rattle.labels.proofs.is_ahead.Statement.{statement}
 use Rattle.labels.proofs.is_ahead.Tie as tie
@@ -45,31 +46,17 @@ returns c =
     of-kind (λ s. aheadIn s (x .c .label) (x .b .label)) (c .before .before .if1 .taken)
     (ap₂ (λ (p q : Bool). p && not q) (c .before .subset .ensures) (c .subset2 .ensures) ∙ mns-words (x .c .label) (x .b .label))
 
-smallest-requires : tie.Need-smallest-requires
-smallest-requires c κs = search needs
-
-smallest-requires-2 : tie.Need-smallest-requires-2
-smallest-requires-2 c κs = search needs
-
 returns-2 : tie.Need-returns-2
 unfolding searchOf
 returns-2 c =
-    let x = c .before .before .before .before .before .before .before .before .args in
-    of-kind (λ s. aheadIn s (x .c .label) (x .b .label)) (c .before .before .if3 .taken)
-    (ap₂ (λ (p q : ℕ). ltb p q) (c .before .smallest .ensures) (c .smallest2 .ensures) ∙ bfs-words (x .c .label) (x .b .label))
-
-upper-bound-requires : tie.Need-upper-bound-requires
-upper-bound-requires c κs = search needs
-
-upper-bound-requires-2 : tie.Need-upper-bound-requires-2
-upper-bound-requires-2 c κs = search needs
+    let s = c .before .before .before .before .before .before .before .before in
+    bfs-ahead (searchOf (s .args .kind .0)) (s .args .c) (s .args .b) (s .pre .0) (s .pre .1) (ap searchOf (c .before .before .if3 .taken))
 
 returns-3 : tie.Need-returns-3
 unfolding searchOf
 returns-3 c =
-    let x = c .before .before .before .before .before .before .before .before .before .before .args in
-    of-kind (λ s. aheadIn s (x .c .label) (x .b .label)) (c .before .before .if4 .taken)
-    (ap₂ (λ (p q : ℕ). ltb p q) (c .before .upper-bound .ensures) (c .upper-bound2 .ensures) ∙ dfs-words (x .c .label) (x .b .label))
+    let s = c .before .before .before .before .before .before .before .before .before .before .before .before in
+    dfs-ahead (searchOf (s .args .kind .0)) (s .args .c) (s .args .b) (s .pre .0) (s .pre .1) (ap searchOf (c .before .before .before .before .if4 .taken))
 
 returns-4 : tie.Need-returns-4
 returns-4 c =
@@ -124,11 +111,7 @@ is-ahead-spec =
     subset-requires
     subset-requires-2
     returns
-    smallest-requires
-    smallest-requires-2
     returns-2
-    upper-bound-requires
-    upper-bound-requires-2
     returns-3
     returns-4
     lowest-difference-requires

@@ -11,41 +11,37 @@ use Rattle.bitset.specs.Below.{anyBelow, firstBelow}
 use Rattle.bitset.specs.Word.{member, difference, fromUp}
 use Rattle.searches.specs.Kind.{Search, searchOf}
 use Rattle.labels.specs.Words.{unexcusedIn}
-use Rattle.labels.proofs.Comparison.{unexcused-generic, unexcused-mns, unexcused-bfs, unexcused-dfs, unexcused-lexBfs, unexcused-lexDfs, of-kind, searchOf-other}
+use Rattle.labels.proofs.Comparison.{unexcused-generic, unexcused-mns, unexcused-lexBfs, unexcused-lexDfs, of-kind, searchOf-other}
+use Rattle.labels.proofs.Extremes.{bfs-unexcused, dfs-unexcused}
 use Rattle.labels.proofs.Profiles.{unexcused-mcs}
 use Rattle.labels.proofs.is_unexcused.Statement.{statement}
 use Rattle.labels.proofs.is_unexcused.Tie as tie
 
-smallest-requires : tie.Need-smallest-requires
-smallest-requires c κs = search needs
+cast-result : tie.Need-cast-result
+cast-result c = search needs
 
 returns : tie.Need-returns
 unfolding searchOf
 returns c =
     let s = c .before .before .before in
     let x = s .args in
-    of-kind (λ k. unexcusedIn k (x .position .0) (x .c .label) (x .b .label)) (c .before .if1 .taken)
-    (ap (λ (p : ℕ). leb (x .position .0) p) (c .smallest .ensures) ∙ unexcused-bfs (x .position .0) (x .c .label) (x .b .label) (omega arith))
+    bfs-unexcused (searchOf (x .kind .0)) (x .c) (x .b) (s .pre .1) (s .pre .2) (x .position .0) (ap searchOf (c .before .if1 .taken)) (s .pre .0)
 
-add-any-from : tie.Need-add-any-from
-add-any-from c = search needs
-
-any-from-requires : tie.Need-any-from-requires
-any-from-requires c κs = search needs
+cast-result-2 : tie.Need-cast-result-2
+cast-result-2 c = search needs
 
 returns-2 : tie.Need-returns-2
 unfolding searchOf
 returns-2 c =
-    let s = c .before .before .before .before .before in
+    let s = c .before .before .before .before .before .before in
     let x = s .args in
-    of-kind (λ k. unexcusedIn k (x .position .0) (x .c .label) (x .b .label)) (c .before .if2 .taken)
-    (ap not (c .any-from .ensures) ∙ ap (λ (p : ℕ). not (anyBelow 64 (fromUp p (x .b .label)))) (add-one (x .position .0)) ∙ unexcused-dfs (x .position .0) (x .c .label) (x .b .label))
+    dfs-unexcused (searchOf (x .kind .0)) (x .c) (x .b) (s .pre .1) (s .pre .2) (x .position .0) (ap searchOf (c .before .before .if2 .taken))
 
 without-requires : tie.Need-without-requires
 without-requires c κs = search needs
 
-smallest-requires-2 : tie.Need-smallest-requires-2
-smallest-requires-2 c κs = search needs
+smallest-requires : tie.Need-smallest-requires
+smallest-requires c κs = search needs
 
 returns-3 : tie.Need-returns-3
 unfolding searchOf
@@ -53,17 +49,17 @@ returns-3 c =
     let s = c .before .before .before .before .before .before .before .before in
     let x = s .args in
     of-kind (λ k. unexcusedIn k (x .position .0) (x .c .label) (x .b .label)) (c .before .before .if3 .taken)
-    (ap (λ (p : ℕ). leb (x .position .0) p) (c .smallest2 .ensures) ∙ ap (λ (y : ℕ). leb (x .position .0) (firstBelow 64 (member y))) (c .before .without .ensures)
+    (ap (λ (p : ℕ). leb (x .position .0) p) (c .smallest .ensures) ∙ ap (λ (y : ℕ). leb (x .position .0) (firstBelow 64 (member y))) (c .before .without .ensures)
     ∙ unexcused-lexBfs (x .position .0) (x .c .label) (x .b .label) (omega arith))
 
 without-requires-2 : tie.Need-without-requires-2
 without-requires-2 c κs = search needs
 
-add-any-from-2 : tie.Need-add-any-from-2
-add-any-from-2 c = search needs
+add-any-from : tie.Need-add-any-from
+add-any-from c = search needs
 
-any-from-requires-2 : tie.Need-any-from-requires-2
-any-from-requires-2 c κs = search needs
+any-from-requires : tie.Need-any-from-requires
+any-from-requires c κs = search needs
 
 returns-4 : tie.Need-returns-4
 unfolding searchOf
@@ -71,7 +67,7 @@ returns-4 c =
     let s = c .before .before .before .before .before .before .before .before .before .before in
     let x = s .args in
     of-kind (λ k. unexcusedIn k (x .position .0) (x .c .label) (x .b .label)) (c .before .before .if4 .taken)
-    (ap not (c .any-from2 .ensures) ∙ ap (λ (y : ℕ). not (anyBelow 64 (fromUp (x .position .0 + 1) y))) (c .before .without2 .ensures)
+    (ap not (c .any-from .ensures) ∙ ap (λ (y : ℕ). not (anyBelow 64 (fromUp (x .position .0 + 1) y))) (c .before .without2 .ensures)
     ∙ ap (λ (p : ℕ). not (anyBelow 64 (fromUp p (difference (x .b .label) (x .c .label))))) (add-one (x .position .0)) ∙ unexcused-lexDfs (x .position .0) (x .c .label) (x .b .label))
 
 subset-requires : tie.Need-subset-requires
@@ -110,17 +106,16 @@ pub is-unexcused-spec : {M : Type 1} → statement M
 is-unexcused-spec =
     tie.close
     (tie.spec
-    smallest-requires
+    cast-result
     returns
-    add-any-from
-    any-from-requires
+    cast-result-2
     returns-2
     without-requires
-    smallest-requires-2
+    smallest-requires
     returns-3
     without-requires-2
-    add-any-from-2
-    any-from-requires-2
+    add-any-from
+    any-from-requires
     returns-4
     subset-requires
     returns-5

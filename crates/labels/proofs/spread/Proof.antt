@@ -1,17 +1,18 @@
--- `labels::spread` meets its contract: what is left of the row makes of the labels what the row makes of them at the start. The measure is the
--- word that is left.
+-- `labels::spread` meets its contract: what is left of the row makes of the labels, and of the running values beside them, what the row makes of
+-- them at the start. The measure is the word that is left.
 -- Assumes nothing.
 use Prim.Native.Nat.{ℕ, _<_}
-use mathlib.Core.Path.{sym, ap, _∙_, subst}
+use mathlib.Core.Path.{refl, sym, subst}
 use mathlib.Core.Logic.{⊎-elim}
 use mathlib.Core.List.{List}
 use lib.Dec.{T}
-use lib.ListN.{set}
+use lib.ListN.{getD, set}
 use native.Mathlib.Omega.{arith}
 use borrow.Author.Needs.{needs}
-use Rattle.bitset.specs.Word.{member, removed}
+use Rattle.bitset.specs.Word.{member, inserted, removed}
 use Rattle.bitset.proofs.Scan.{first-member, removed-less, taken-out}
-use Rattle.labels.proofs.Spreading.{Spreading, spread-start, spread-next, spread-past, spread-end}
+use Rattle.labels.specs.Words.{firstKept}
+use Rattle.labels.proofs.Spreading.{Placing, spread-start, spread-next, spread-past, spread-end}
 use Rattle.labels.proofs.spread.Statement.{statement}
 use Rattle.labels.proofs.spread.Tie as tie
 use Rattle.labels.proofs.spread.Reads as reads
@@ -19,40 +20,67 @@ use Rattle.labels.proofs.spread.Lts as lts
 use Rattle.bitset.proofs.smallest.Reads as smallest-reads
 use Rattle.bitset.proofs.insert.Reads as insert-reads
 use Rattle.bitset.proofs.without_smallest.Reads as without-smallest-reads
+use Rattle.labels.proofs.first_kept.Reads as first-kept-reads
 
 abbrev Inv-loop : tie.InvT-loop
-Inv-loop labels₀ row n p rest₀ labels rest = Spreading row p n labels₀ labels rest
+Inv-loop labels₀ smallest₀ largest₀ row n p latest rest₀ labels smallest largest rest =
+    Placing p row n labels₀ smallest₀ largest₀ labels smallest largest rest
 
 abbrev μ-loop : tie.MeasureT-loop
-μ-loop labels₀ row n p rest₀ labels rest = rest
+μ-loop labels₀ smallest₀ largest₀ row n p latest rest₀ labels smallest largest rest = rest
 
 -- the smallest number of what is left is in it
-found : (c : lts.After-smallest (smallest-reads.Asked, smallest-reads.Learnt, insert-reads.Asked, insert-reads.Learnt, without-smallest-reads.Asked, without-smallest-reads.Learnt) reads.Pre reads.Post Inv-loop μ-loop)
+found : (c : tie.After-smallest Inv-loop μ-loop)
     → (c .smallest .result < 64) × T (member (c .before .before .loop .rest) (c .smallest .result))
 found c =
     let rest = c .before .before .loop .rest in
-    subst (λ (v : ℕ). (v < 64) × T (member rest v)) (sym (c .smallest .ensures)) (first-member rest (c .before .before .loop .inv .word) (omega arith))
+    subst (λ (v : ℕ). (v < 64) × T (member rest v)) (sym (c .smallest .ensures)) (first-member rest (c .before .before .loop .inv .0 .word) (omega arith))
+
+-- so it is the number of an element, as the position is
+inside : (c : tie.After-smallest Inv-loop μ-loop) → (c .smallest .result < 64) × (c .before .before .before .args .position .0 < 64)
+inside c = (found c .0, c .before .before .before .pre)
+
+cast-latest : tie.Need-cast-latest Inv-loop μ-loop
+cast-latest c = omega (arith, c .pre)
 
 loop-holds : tie.Need-loop-holds Inv-loop μ-loop
-loop-holds c = spread-start (c .args .row) (c .args .position .0) (c .args .n) (c .args .labels .now) (c .fits .row .fits)
+loop-holds c =
+    let a = c .args in
+    let word = c .fits .row .fits in (
+      spread-start (λ x. inserted x (a .position .0)) (a .row) (a .n) (a .labels .now) word,
+      spread-start (λ x. firstKept (a .position .0) x) (a .row) (a .n) (a .smallest .now) word,
+      spread-start (λ x. a .position .0) (a .row) (a .n) (a .largest .now) word,
+    )
 
 smallest-requires : tie.Need-smallest-requires Inv-loop μ-loop
 smallest-requires c κs = search needs
 
+element-copy-out-first-kept : tie.Need-element-copy-out-first-kept Inv-loop μ-loop
+element-copy-out-first-kept c = omega (arith, inside (c .before))
+
+first-kept-requires : tie.Need-first-kept-requires Inv-loop μ-loop
+first-kept-requires c κs = search needs
+
 mul-insert : tie.Need-mul-insert Inv-loop μ-loop
-mul-insert c = omega (arith, found (c .before) .0)
+mul-insert c = omega (arith, inside (c .before .before .before))
 
 element-copy-out-insert : tie.Need-element-copy-out-insert Inv-loop μ-loop
-element-copy-out-insert c = found (c .before) .0
+element-copy-out-insert c = omega (arith, inside (c .before .before .before))
 
 insert-requires : tie.Need-insert-requires Inv-loop μ-loop
 insert-requires c κs = search needs
 
 mul-labels : tie.Need-mul-labels Inv-loop μ-loop
-mul-labels c = omega (arith, found (c .before .before .before) .0)
+mul-labels c = omega (arith, inside (c .before .before .before .before .before))
 
 element-write-labels : tie.Need-element-write-labels Inv-loop μ-loop
-element-write-labels c = found (c .before .before .before) .0
+element-write-labels c = omega (arith, inside (c .before .before .before .before .before))
+
+element-write-smallest : tie.Need-element-write-smallest Inv-loop μ-loop
+element-write-smallest c = omega (arith, inside (c .before .before .before .before .before))
+
+element-write-largest : tie.Need-element-write-largest Inv-loop μ-loop
+element-write-largest c = omega (arith, inside (c .before .before .before .before .before))
 
 without-smallest-requires : tie.Need-without-smallest-requires Inv-loop μ-loop
 without-smallest-requires c κs = search needs
@@ -61,30 +89,44 @@ loop-less : tie.Need-loop-less Inv-loop μ-loop
 loop-less c =
     let n = c .before .before in
     let l = n .before .before in
-    subst (λ (x : ℕ). x < l .loop .rest) (sym (taken-out (l .loop .rest) (c .without-smallest .ensures) (n .smallest .ensures))) (removed-less (l .loop .rest) (n .smallest .result) (l .loop .inv .word) (found n .1))
+    subst (λ (x : ℕ). x < l .loop .rest) (sym (taken-out (l .loop .rest) (c .without-smallest .ensures) (n .smallest .ensures))) (removed-less (l .loop .rest) (n .smallest .result) (l .loop .inv .0 .word) (found n .1))
 
 loop-again : tie.Need-loop-again Inv-loop μ-loop
 loop-again c =
     let n = c .before .before in
     let l = n .before .before in
     let a = l .before .args in
+    let p = a .position .0 in
     let v = n .smallest .result in
-    subst (λ (x : ℕ). Spreading (a .row) (a .position .0) (a .n) (a .labels .now) (c .before .if1 .labels) x) (sym (taken-out (l .loop .rest) (c .without-smallest .ensures) (n .smallest .ensures)))
-    (⊎-elim
-    (λ x.
-    subst (λ (ls : List ℕ). Spreading (a .row) (a .position .0) (a .n) (a .labels .now) ls (removed (l .loop .rest) v))
-    (sym (x .3 ∙ ap (λ (y : ℕ). set (l .loop .labels) v y) (x .2 .ensures)))
-    (spread-next (a .row) (a .position .0) (a .n) (a .labels .now) (l .loop .labels) (l .loop .rest) (l .loop .inv) v (found n .1) (x .0 .taken)))
-    (λ x.
-    subst (λ (ls : List ℕ). Spreading (a .row) (a .position .0) (a .n) (a .labels .now) ls (removed (l .loop .rest) v)) (sym (x .1))
-    (spread-past (a .row) (a .position .0) (a .n) (a .labels .now) (l .loop .labels) (l .loop .rest) (l .loop .inv) v (x .0 .left)))
-    (c .before .if1 .came))
+    let k = l .loop in
+    let now = c .before .if1 in
+    subst (λ (x : ℕ). Placing p (a .row) (a .n) (a .labels .now) (a .smallest .now) (a .largest .now) (now .labels) (now .smallest) (now .largest) x)
+    (sym (taken-out (k .rest) (c .without-smallest .ensures) (n .smallest .ensures)))
+    (⊎-elim (λ x. (
+      spread-next (λ y. inserted y p) (a .row) (a .n) (a .labels .now) (k .labels) (now .labels) (k .rest) (k .inv .0) v (found n .1) (x .0 .taken) (x .5) (x .4 .ensures),
+      spread-next (λ y. firstKept p y) (a .row) (a .n) (a .smallest .now) (k .smallest) (now .smallest) (k .rest) (k .inv .1) v (found n .1) (x .0 .taken) (x .6) (x .2 .ensures),
+      spread-next (λ y. p) (a .row) (a .n) (a .largest .now) (k .largest) (now .largest) (k .rest) (k .inv .2) v (found n .1) (x .0 .taken) (x .7) refl,
+    )) (λ x. (
+      spread-past (λ y. inserted y p) (a .row) (a .n) (a .labels .now) (k .labels) (now .labels) (k .rest) (k .inv .0) v (x .0 .left) (x .1),
+      spread-past (λ y. firstKept p y) (a .row) (a .n) (a .smallest .now) (k .smallest) (now .smallest) (k .rest) (k .inv .1) v (x .0 .left) (x .2),
+      spread-past (λ y. p) (a .row) (a .n) (a .largest .now) (k .largest) (now .largest) (k .rest) (k .inv .2) v (x .0 .left) (x .3),
+    )) (now .came))
 
 returns : tie.Need-returns Inv-loop μ-loop
 returns c =
     let a = c .before .before .args in
-    spread-end (a .row) (a .position .0) (a .n) (a .labels .now) (c .before .loop .labels)
-    (subst (λ (x : ℕ). Spreading (a .row) (a .position .0) (a .n) (a .labels .now) (c .before .loop .labels) x) (c .loop-test .left) (c .before .loop .inv))
+    let k = c .before .loop in
+    let p = a .position .0 in
+    let over =
+    subst (λ (x : ℕ). Placing p (a .row) (a .n) (a .labels .now) (a .smallest .now) (a .largest .now) (k .labels) (k .smallest) (k .largest) x)
+    (c .loop-test .left) (k .inv)
+    in (
+      spread-end (λ y. inserted y p) (a .row) (a .n) (a .labels .now) (k .labels) (over .0),
+      (
+        spread-end (λ y. firstKept p y) (a .row) (a .n) (a .smallest .now) (k .smallest) (over .1),
+        spread-end (λ y. p) (a .row) (a .n) (a .largest .now) (k .largest) (over .2),
+      ),
+    )
 
 pub spread-spec : {M : Type 1} → statement M
 spread-spec =
@@ -92,13 +134,18 @@ spread-spec =
     (tie.spec
     Inv-loop
     μ-loop
+    cast-latest
     loop-holds
     smallest-requires
+    element-copy-out-first-kept
+    first-kept-requires
     mul-insert
     element-copy-out-insert
     insert-requires
     mul-labels
     element-write-labels
+    element-write-smallest
+    element-write-largest
     without-smallest-requires
     loop-less
     loop-again

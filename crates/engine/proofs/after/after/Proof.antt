@@ -38,9 +38,10 @@ accepted c = sym (ap refusalOf (c .enum-told2 .given .1)) ∙ c .before .before 
 
 replay-requires : tie.Need-replay-requires
 replay-requires c κs =
-    let a = c .before .before .before .before .before .before .args in
+    let told = c .before .before .before in
+    let a = told .before .before .before .before .before .args in
     replayable (now (a .rows)) (now (a .ordering)) (length (now (a .ordering)))
-    (judge-asked-accepted (a .kind .0) (now (a .rows)) (now (a .ordering)) (accepted (c .before)) .0)
+    (judge-asked-accepted (a .kind .0) (now (a .rows)) (now (a .ordering)) (accepted told) .0)
 
 no-moment-requires-2 : tie.Need-no-moment-requires-2
 no-moment-requires-2 c κs = search needs
@@ -48,17 +49,17 @@ no-moment-requires-2 c κs = search needs
 returns-2 : tie.Need-returns-2
 returns-2 c =
     let r = c .before .before .before in
-    let told = r .before .before in
+    let told = r .before .before .before .before in
     let a = told .before .before .before .before .before .args in
     moment-stopped (a .kind .0) (now (a .rows)) (now (a .ordering)) (accepted told) (r .replay .result .count) (r .replay .ensures .0) (c .no-moment2 .ensures) (c .before .if1 .taken)
 
 returns-3 : tie.Need-returns-3
 returns-3 c =
     let r = c .before .before in
-    let told = r .before .before in
+    let told = r .before .before .before .before in
     let a = told .before .before .before .before .before .args in
     moment-ended (a .kind .0) (now (a .rows)) (now (a .ordering)) (accepted told) (r .replay .result .count) (r .replay .ensures .0) (c .if1 .left)
-    (r .replay .ensures .1 .0) (r .replay .ensures .1 .1 .0) (r .replay .ensures .1 .1 .1 .1)
+    (r .replay .ensures .1 .0) (r .replay .ensures .1 .1 .0) (r .replay .ensures .1 .1 .1 .1 .0) (r .replay .ensures .1 .1 .1 .1 .1 .0) (r .replay .ensures .1 .1 .1 .1 .1 .1)
 
 pub after-spec : {M : Type 1} → statement M
 after-spec =

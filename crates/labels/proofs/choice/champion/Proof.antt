@@ -21,11 +21,11 @@ use Rattle.labels.proofs.choice.champion.Statement.{statement}
 use Rattle.labels.proofs.choice.champion.Tie as tie
 
 abbrev Inv-loop : tie.InvT-loop
-Inv-loop kind rows labels placed free reached front best₀ rest₀ best rest =
+Inv-loop kind rows labels smallest largest placed free reached front best₀ rest₀ best rest =
     T (member free (best .0)) × Scanned (searchOf (kind .0)) labels front (getD labels (best .0) 0) rest
 
 abbrev μ-loop : tie.MeasureT-loop
-μ-loop kind rows labels placed free reached front best₀ rest₀ best rest = rest
+μ-loop kind rows labels smallest largest placed free reached front best₀ rest₀ best rest = rest
 
 common-requires : tie.Need-common-requires Inv-loop μ-loop
 common-requires c κs = search needs
@@ -63,8 +63,8 @@ leads c =
     let at = sym (c .smallest2 .ensures) in
     (subst (λ (u : ℕ). u < 64) at (first .0), subst (λ (u : ℕ). T (member (m .common .result) u)) at (first .1), word)
 
-cast-t16 : tie.Need-cast-t16 Inv-loop μ-loop
-cast-t16 c = omega (arith, leads c .0)
+cast-t18 : tie.Need-cast-t18 Inv-loop μ-loop
+cast-t18 c = omega (arith, leads c .0)
 
 without-smallest-requires : tie.Need-without-smallest-requires Inv-loop μ-loop
 without-smallest-requires c κs = search needs
@@ -94,8 +94,8 @@ loop-holds c =
 smallest-requires-3 : tie.Need-smallest-requires-3 Inv-loop μ-loop
 smallest-requires-3 c κs = search needs
 
-cast-t19 : tie.Need-cast-t19 Inv-loop μ-loop
-cast-t19 c = omega (arith, found c .0)
+cast-t21 : tie.Need-cast-t21 Inv-loop μ-loop
+cast-t21 c = omega (arith, found c .0)
 
 profile-of-requires : tie.Need-profile-of-requires Inv-loop μ-loop
 profile-of-requires c κs = let l = c .before .before in (leader l, l .before .before .before .before .before .before .pre .2)
@@ -179,11 +179,11 @@ champion-spec =
     cast-first
     returns
     smallest-requires-2
-    cast-t16
+    cast-t18
     without-smallest-requires
     loop-holds
     smallest-requires-3
-    cast-t19
+    cast-t21
     profile-of-requires
     profile-of-requires-2
     is-ahead-requires

@@ -6,21 +6,22 @@ use lib.ListN.{length, getD}
 use denote.Ref.{now}
 use Rattle.bitset.specs.Word.{united}
 use Rattle.bitset.proofs.Tests.{said-true, said-false}
-use Rattle.labels.specs.Words.{Tallied, spreadTo, beatenIn}
+use Rattle.labels.specs.Words.{Consistent, spreadTo, smallestTo, largestTo, beatenIn}
 use Rattle.labels.proofs.Profiles.{label-of, profile-own}
-use Rattle.steps.specs.Steps.{labelsAfter, placedAfter, freeAfter, reachedAfter, stopsAt}
+use Rattle.steps.specs.Steps.{labelsAfter, smallestAfter, largestAfter, placedAfter, freeAfter, reachedAfter, stopsAt}
 use native.Mathlib.Omega.{arith}
 use borrow.Author.Needs.{needs}
 use Rattle.searches.specs.Kind.{searchOf}
-use Rattle.steps.proofs.Replaying.{Replaying, replay-start, replay-tallied, replay-next, replay-stop, replay-end, asked}
+use Rattle.steps.proofs.Replaying.{Replaying, replay-start, replay-consistent, replay-next, replay-stop, replay-end, asked}
 use Rattle.steps.proofs.replay.replay.Statement.{statement}
 use Rattle.steps.proofs.replay.replay.Tie as tie
 
 abbrev Inv-loop : tie.InvT-loop
-Inv-loop kind rows ordering k labels₀ set₀ free₀ reached₀ j₀ labels set free reached j = Replaying (searchOf (kind .0)) rows ordering k labels set free reached j
+Inv-loop kind rows ordering k labels₀ smallest₀ largest₀ set₀ free₀ reached₀ j₀ labels smallest largest set free reached j =
+    Replaying (searchOf (kind .0)) rows ordering k labels smallest largest set free reached j
 
 abbrev μ-loop : tie.MeasureT-loop
-μ-loop kind rows ordering k labels₀ set₀ free₀ reached₀ j₀ labels set free reached j = k - j
+μ-loop kind rows ordering k labels₀ smallest₀ largest₀ set₀ free₀ reached₀ j₀ labels smallest largest set free reached j = k - j
 
 full-below-requires : tie.Need-full-below-requires Inv-loop μ-loop
 full-below-requires c κs = search needs
@@ -41,38 +42,39 @@ loop-holds c =
 vertex-at-requires : tie.Need-vertex-at-requires Inv-loop μ-loop
 vertex-at-requires c κs = let s = c .before .before .before .before .before in omega (arith, s .pre .long, s .pre .fits)
 
--- what is counted at the vertex's turn
-counts : (c : tie.After-vertex-at Inv-loop μ-loop)
+-- what is kept beside the labels at the vertex's turn
+agrees : (c : tie.After-vertex-at Inv-loop μ-loop)
     → let a = c .before .before .before .before .before .before .args in
-    Tallied (now (a .rows)) (c .before .before .loop .labels) (c .before .before .loop .set)
-counts c =
+    let l = c .before .before .loop in
+    Consistent (now (a .rows)) (l .labels) (l .smallest) (l .largest) (l .set)
+agrees c =
     let l = c .before .before in
     let s = l .before .before .before .before in
     let a = s .args in
-    replay-tallied (searchOf (a .kind .0)) (now (a .rows)) (now (a .ordering)) (a .k) (s .pre) (l .loop .inv)
+    replay-consistent (searchOf (a .kind .0)) (now (a .rows)) (now (a .ordering)) (a .k) (s .pre) (l .loop .inv)
 
 profile-of-requires : tie.Need-profile-of-requires Inv-loop μ-loop
-profile-of-requires c κs = (omega (arith, inside (c .before)), counts (c .before))
+profile-of-requires c κs = let v = c .before .before .before in (omega (arith, inside v), agrees v)
 
 common-requires : tie.Need-common-requires Inv-loop μ-loop
 common-requires c κs = search needs
 
 is-beaten-requires : tie.Need-is-beaten-requires Inv-loop μ-loop
 is-beaten-requires c κs =
-    let p = c .before .before in
-    let v = p .before .before in
+    let p = c .before .before .before .before in
+    let v = p .before .before .before .before in
     let a = v .before .before .before .before .before .before .args in
-    (profile-own (searchOf (a .kind .0)) (getD (v .before .before .loop .labels) (v .vertex-at .result .0) 0) (p .profile-of .ensures), counts v)
+    (profile-own (searchOf (a .kind .0)) (getD (v .before .before .loop .labels) (v .vertex-at .result .0) 0) (p .profile-of .ensures), agrees v)
 
 -- whether the vertex is beaten
 answered : (c : tie.After-is-beaten Inv-loop μ-loop)
-    → let v = c .before .before .before .before .before in
+    → let v = c .before .before .before .before .before .before .before .before .before in
     let l = v .before .before in
     let a = l .before .before .before .before .args in
     c .is-beaten .result ≡ stopsAt (searchOf (a .kind .0)) (now (a .rows)) (now (a .ordering)) (l .loop .j)
 answered c =
-    let p = c .before .before .before in
-    let v = p .before .before in
+    let p = c .before .before .before .before .before in
+    let v = p .before .before .before .before in
     let l = v .before .before in
     let a = l .before .before .before .before .args in
     let k = searchOf (a .kind .0) in
@@ -82,21 +84,25 @@ answered c =
 
 returns : tie.Need-returns Inv-loop μ-loop
 returns c =
-    let v = c .before .before .before .before .before .before in
+    let v = c .before .before .before .before .before .before .before .before .before .before in
     let l = v .before .before in
     let s = l .before .before .before .before in
     let k = searchOf (s .args .kind .0) in
     let w = now (s .args .ordering) in
     let r = now (s .args .rows) in (
       replay-stop k r w (s .args .k) (l .loop .inv) (v .before .loop-test .taken) (said-true (stopsAt k r w (l .loop .j)) (answered (c .before)) (c .if1 .taken)),
-      (l .loop .inv .set, (l .loop .inv .unplaced, (l .loop .inv .met, l .loop .inv .labelled))),
+      (l .loop .inv .set, (l .loop .inv .unplaced, (l .loop .inv .met, (l .loop .inv .labelled, (l .loop .inv .firsts, l .loop .inv .lasts))))),
     )
 
 row-of-requires : tie.Need-row-of-requires Inv-loop μ-loop
 row-of-requires c κs = search needs
 
 spread-requires : tie.Need-spread-requires Inv-loop μ-loop
-spread-requires c κs = search needs
+spread-requires c κs =
+    let beaten = c .before .before .before .before .before in
+    let v = beaten .before .before .before .before .before .before .before .before .before in
+    let s = v .before .before .before .before .before .before in
+    omega (arith, v .before .loop-test .taken, s .pre .fits, s .pre .small)
 
 cast-insert : tie.Need-cast-insert Inv-loop μ-loop
 cast-insert c = search needs
@@ -114,7 +120,11 @@ union-requires : tie.Need-union-requires Inv-loop μ-loop
 union-requires c κs = search needs
 
 add-j : tie.Need-add-j Inv-loop μ-loop
-add-j c = let v = c .before .before .before .before .before .before .before .before .before .before .before .before .before .before in let s = v .before .before .before .before .before .before in omega (arith, v .before .loop-test .taken, s .fits .k .fits)
+add-j c =
+    let beaten = c .before .before .before .before .before .before .before .before .before .before .before in
+    let v = beaten .before .before .before .before .before .before .before .before .before in
+    let s = v .before .before .before .before .before .before in
+    omega (arith, v .before .loop-test .taken, s .fits .k .fits)
 
 loop-less : tie.Need-loop-less Inv-loop μ-loop
 loop-less c = search needs
@@ -124,18 +134,21 @@ loop-again c =
     let removed = c .before in
     let inserted = removed .before .before in
     let placed = inserted .before .before in
-    let row = placed .before .before in
+    let row = placed .before .before .before .before in
     let beaten = row .before .before in
-    let v = beaten .before .before .before .before .before in
+    let v = beaten .before .before .before .before .before .before .before .before .before in
     let l = v .before .before in
     let s = l .before .before .before .before in
     let k = searchOf (s .args .kind .0) in
     let w = now (s .args .ordering) in
     let r = now (s .args .rows) in
-    replay-next k r w (s .args .k) (placed .spread .last .0) (inserted .insert .result) (removed .remove .result) (c .union .result) (l .loop .inv)
+    let row-is = row .row-of .ensures in
+    replay-next k r w (s .args .k) (placed .spread .last .0) (placed .spread .last .1 .0) (placed .spread .last .1 .1 .0) (inserted .insert .result) (removed .remove .result) (c .union .result) (l .loop .inv)
     (v .before .loop-test .taken) (v .vertex-at .ensures) (said-false (stopsAt k r w (l .loop .j)) (answered beaten) (row .before .if1 .left))
-    (placed .spread .ensures ∙ ap (λ (x : ℕ). spreadTo x (l .loop .j) (length r) (l .loop .labels)) (row .row-of .ensures)) (inserted .insert .ensures)
-    (removed .remove .ensures) (c .union .ensures ∙ ap (λ (x : ℕ). united (l .loop .reached) x) (row .row-of .ensures))
+    (placed .spread .ensures .0 ∙ ap (λ (x : ℕ). spreadTo x (l .loop .j) (length r) (l .loop .labels)) row-is)
+    (placed .spread .ensures .1 .0 ∙ ap (λ (x : ℕ). smallestTo x (l .loop .j) (length r) (l .loop .smallest)) row-is)
+    (placed .spread .ensures .1 .1 ∙ ap (λ (x : ℕ). largestTo x (l .loop .j) (length r) (l .loop .largest)) row-is) (inserted .insert .ensures)
+    (removed .remove .ensures) (c .union .ensures ∙ ap (λ (x : ℕ). united (l .loop .reached) x) row-is)
 
 returns-2 : tie.Need-returns-2 Inv-loop μ-loop
 returns-2 c =
@@ -150,7 +163,13 @@ returns-2 c =
         l .loop .inv .set ∙ ap (λ (m : ℕ). placedAfter w m) e,
         (
           l .loop .inv .unplaced ∙ ap (λ (m : ℕ). freeAfter (length r) w m) e,
-          (l .loop .inv .met ∙ ap (λ (m : ℕ). reachedAfter r w m) e, l .loop .inv .labelled ∙ ap (λ (m : ℕ). labelsAfter r w m) e),
+          (
+            l .loop .inv .met ∙ ap (λ (m : ℕ). reachedAfter r w m) e,
+            (
+              l .loop .inv .labelled ∙ ap (λ (m : ℕ). labelsAfter r w m) e,
+              (l .loop .inv .firsts ∙ ap (λ (m : ℕ). smallestAfter r w m) e, l .loop .inv .lasts ∙ ap (λ (m : ℕ). largestAfter r w m) e),
+            ),
+          ),
         ),
       ),
     )

@@ -18,10 +18,10 @@ use Rattle.steps.proofs.violation.first_by_number.Statement.{statement}
 use Rattle.steps.proofs.violation.first_by_number.Tie as tie
 
 abbrev Inv-loop : tie.InvT-loop
-Inv-loop kind rows labels placed front i mine rest₀ rest = Scanned 64 front (λ c. unexcusedIn (searchOf (kind .0)) (i .0) (getD labels c 0) (mine .label)) rest
+Inv-loop kind rows labels smallest largest placed front i mine rest₀ rest = Scanned 64 front (λ c. unexcusedIn (searchOf (kind .0)) (i .0) (getD labels c 0) (mine .label)) rest
 
 abbrev μ-loop : tie.MeasureT-loop
-μ-loop kind rows labels placed front i mine rest₀ rest = rest
+μ-loop kind rows labels smallest largest placed front i mine rest₀ rest = rest
 
 -- the smallest number of what is left is in it
 found : (c : tie.After-smallest Inv-loop μ-loop) → (c .smallest .result < 64) × T (member (c .before .before .loop .rest) (c .smallest .result))
@@ -35,8 +35,8 @@ loop-holds c = scan-start _ _ (c .before .fits .front .fits)
 smallest-requires : tie.Need-smallest-requires Inv-loop μ-loop
 smallest-requires c κs = search needs
 
-cast-t12 : tie.Need-cast-t12 Inv-loop μ-loop
-cast-t12 c = omega (arith, found c .0)
+cast-t14 : tie.Need-cast-t14 Inv-loop μ-loop
+cast-t14 c = omega (arith, found c .0)
 
 profile-of-requires : tie.Need-profile-of-requires Inv-loop μ-loop
 profile-of-requires c κs = (found c .0, c .before .before .before .before .pre .2)
@@ -95,7 +95,7 @@ first-by-number-spec =
     μ-loop
     loop-holds
     smallest-requires
-    cast-t12
+    cast-t14
     profile-of-requires
     is-unexcused-requires
     returns

@@ -16,11 +16,11 @@ use Rattle.steps.proofs.violation.first_first.Statement.{statement}
 use Rattle.steps.proofs.violation.first_first.Tie as tie
 
 abbrev Inv-loop : tie.InvT-loop
-Inv-loop kind rows ordering k labels placed free j b mine middle i₀ i =
+Inv-loop kind rows ordering k labels smallest largest placed free j b mine middle i₀ i =
     Passed middle (firstIn (searchOf (kind .0)) rows ordering labels free (j .0) k) i
 
 abbrev μ-loop : tie.MeasureT-loop
-μ-loop kind rows ordering k labels placed free j b mine middle i₀ i = middle - i
+μ-loop kind rows ordering k labels smallest largest placed free j b mine middle i₀ i = middle - i
 
 vertex-at-requires : tie.Need-vertex-at-requires Inv-loop μ-loop
 vertex-at-requires c κs = let s = c .before .before in omega (arith, s .pre .inside, s .pre .long)
@@ -28,7 +28,7 @@ vertex-at-requires c κs = let s = c .before .before in omega (arith, s .pre .in
 profile-of-requires : tie.Need-profile-of-requires Inv-loop μ-loop
 profile-of-requires c κs =
     let s = c .before .before .before in
-    (omega (arith, c .vertex-at .ensures, s .pre .small, s .pre .vertices (s .args .j .0) (s .pre .inside)), s .pre .tallied)
+    (omega (arith, c .vertex-at .ensures, s .pre .small, s .pre .vertices (s .args .j .0) (s .pre .inside)), s .pre .consistent)
 
 loop-holds : tie.Need-loop-holds Inv-loop μ-loop
 loop-holds c = passed-start _ _
@@ -46,7 +46,7 @@ first-by-number-requires c κs =
     let a = s .args in (
       omega (arith, s .pre .inside, s .pre .fits, s .pre .small),
       profile-own (searchOf (a .kind .0)) (getD (a .labels .now) (m .before .vertex-at .result .0) 0) (m .profile-of .ensures),
-      s .pre .tallied,
+      s .pre .consistent,
     )
 
 -- what the search by number says of position i

@@ -41,7 +41,7 @@ profile-of-requires : tie.Need-profile-of-requires
 profile-of-requires c κs =
     let b = c .before in
     let s = b .before .before .before .before .before in
-    (omega (arith, b .vertex-at2 .ensures, s .pre .0 .small, s .pre .0 .vertices (s .args .j .0) (s .pre .0 .inside)), s .pre .0 .tallied)
+    (omega (arith, b .vertex-at2 .ensures, s .pre .0 .small, s .pre .0 .vertices (s .args .j .0) (s .pre .0 .inside)), s .pre .0 .consistent)
 
 first-last-requires : tie.Need-first-last-requires
 first-last-requires c κs =
@@ -55,7 +55,7 @@ first-last-requires c κs =
         bit = omega (arith, starts f .0, s .pre .0 .inside, s .pre .0 .fits, s .pre .0 .small);
       },
       profile-own (searchOf (a .kind .0)) (getD (a .labels .now) (b .vertex-at2 .result .0) 0) (c .profile-of .ensures),
-      s .pre .0 .tallied,
+      s .pre .0 .consistent,
     )
 
 returns : tie.Need-returns

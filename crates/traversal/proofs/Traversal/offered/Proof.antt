@@ -9,7 +9,7 @@ use borrow.Author.Needs.{needs}
 use Rattle.bitset.proofs.Tests.{is-true, not-true, not-false}
 use Rattle.searches.specs.Answer.{refusalOf, number}
 use Rattle.traversal.specs.State.{plan, walk, wellFormed}
-use Rattle.traversal.proofs.WellFormed.{parts, plan-length, surveyed-passes, surveyed-words, surveyed-tallied, well-formed-out, open-offers}
+use Rattle.traversal.proofs.WellFormed.{parts, plan-length, surveyed-passes, surveyed-words, surveyed-consistent, well-formed-out, open-offers}
 use Rattle.traversal.proofs.Answered.{offered-whole, offered-refused}
 use Rattle.traversal.proofs.Traversal.offered.Statement.{statement}
 use Rattle.traversal.proofs.Traversal.offered.Tie as tie
@@ -30,43 +30,46 @@ survey-requires c κs = search needs
 returns : tie.Need-returns
 unfolding refusalOf number
 returns c =
-    let t = c .before .before .before .before .before .before .before .args .self in
-    let asked = c .before .survey in
+    let t = c .before .before .before .before .before .before .before .before .args .self in
+    let asked = c .before .before .survey in
     let refused = offered-refused t (sym (surveyed-passes t (asked .ensures)) ∙ not-true (asked .result .passes) (c .if1 .taken)) in
     (refl, (refused .0, refused .1))
 
 -- what is known once 13 does not apply
-sound : (c : tie.Else1) → T (wellFormed (c .before .before .before .before .before .before .before .args .self))
+sound : (c : tie.Else1) → T (wellFormed (c .before .before .before .before .before .before .before .before .args .self))
 sound c =
-    let asked = c .before .survey in
-    let t = c .before .before .before .before .before .before .before .args .self in
+    let asked = c .before .before .survey in
+    let t = c .before .before .before .before .before .before .before .before .args .self in
     subst (λ (b : Bool). T b) (sym (not-false (asked .result .passes) (c .if1 .left)) ∙ surveyed-passes t (asked .ensures)) tt
 
 array-share-prefix-rows : tie.Need-array-share-prefix-rows
-array-share-prefix-rows c = let s = c .before .before .before .before .before .before .before in omega (arith, parts (s .args .self) (sound c) .points, arrays s .0)
+array-share-prefix-rows c =
+    let past = c .before .before .before in
+    let s = past .before .before .before .before .before .before .before .before in
+    omega (arith, parts (s .args .self) (sound past) .points, arrays s .0)
 
 slice-aggregate-open-below : tie.Need-slice-aggregate-open-below
 unfolding plan
 slice-aggregate-open-below c =
-    let past = c .before in
-    let s = past .before .before .before .before .before .before .before in
+    let past = c .before .before .before .before in
+    let s = past .before .before .before .before .before .before .before .before in
     let full = arrays s in
     sym (plan-length (s .args .self) (full .0) (full .1) (parts (s .args .self) (sound past) .points))
 
 open-below-requires : tie.Need-open-below-requires
 unfolding plan
 open-below-requires c κs =
-    let past = c .before .before .before in
-    let s = past .before .before .before .before .before .before .before in
+    let past = c .before .before .before .before .before .before .before in
+    let s = past .before .before .before .before .before .before .before .before in
     let full = arrays s in
-    (parts (s .args .self) (sound past) .points, surveyed-tallied (s .args .self) (full .0) (full .1) (past .before .survey .ensures) (sound past))
+    (parts (s .args .self) (sound past) .points, surveyed-consistent (s .args .self) (full .0) (full .1) (past .before .before .survey .ensures) (sound past))
 
 returns-2 : tie.Need-returns-2
 unfolding refusalOf plan walk
 returns-2 c =
-    let past = c .before .before .before .before in
-    let asked = past .before .survey in
-    let s = past .before .before .before .before .before .before .before in
+    let past = c .before .before .before .before .before .before .before .before in
+    let asked = past .before .before .survey in
+    let s = past .before .before .before .before .before .before .before .before in
     let t = s .args .self in
     let full = arrays s in
     let words = surveyed-words t (full .0) (full .1) (asked .ensures) (sound past) in

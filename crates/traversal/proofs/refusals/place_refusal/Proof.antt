@@ -16,7 +16,7 @@ use Rattle.searches.specs.Answer.{number, refusalOf}
 use Rattle.checks.proofs.Tried.{Tried, tried-none, tried-one, refused-here, accepted-here}
 use Rattle.traversal.specs.declared.Traversal.{Traversal}
 use Rattle.traversal.specs.State.{state, plan, walk, wellFormed, WellFormed, offers, placeTests, placeAnswer}
-use Rattle.traversal.proofs.WellFormed.{plan-length, surveyed-passes, surveyed-words, surveyed-tallied, well-formed-out, open-offers, free-offers}
+use Rattle.traversal.proofs.WellFormed.{plan-length, surveyed-passes, surveyed-words, surveyed-consistent, well-formed-out, open-offers, free-offers}
 use Rattle.traversal.proofs.refusals.place_refusal.Statement.{statement}
 use Rattle.traversal.proofs.refusals.place_refusal.Tie as tie
 
@@ -36,55 +36,55 @@ Past i s = Tried (tests s) (drop i (tests s))
 told : (c : tie.After-survey) → c .survey .result .passes ≡ wellFormed (asked (c .before .before .before))
 told c = surveyed-passes (asked (c .before .before .before)) (c .survey .ensures)
 
-sound : (c : tie.Else1) → T (wellFormed (asked (c .before .before .before .before .before)))
-sound c = subst (λ (b : Bool). T b) (sym (not-false (c .before .before .survey .result .passes) (c .if1 .left)) ∙ told (c .before .before)) tt
+sound : (c : tie.Else1) → T (wellFormed (asked (c .before .before .before .before .before .before)))
+sound c = subst (λ (b : Bool). T b) (sym (not-false (c .before .before .before .survey .result .passes) (c .if1 .left)) ∙ told (c .before .before .before)) tt
 
-formed : (c : tie.Else1) → WellFormed (asked (c .before .before .before .before .before))
+formed : (c : tie.Else1) → WellFormed (asked (c .before .before .before .before .before .before))
 formed c =
-    let s = c .before .before .before .before .before in
+    let s = c .before .before .before .before .before .before in
     well-formed-out (asked s) (s .pre .0) (s .pre .1) (sound c)
 
 unplaced : (c : tie.After-contains)
-    → let s = c .before .before .before .before .before .before .before .before in
+    → let s = c .before .before .before .before .before .before .before .before .before in
     not (placed (walk (asked s)) (s .args .k) (s .args .vertex .0)) ≡ c .contains .result
 unfolding plan walk
 unplaced c =
     let first = c .before .before .before in
-    let s = first .before .before .before .before .before in
-    let words = surveyed-words (asked s) (s .pre .0) (s .pre .1) (first .before .before .survey .ensures) (sound first) in
+    let s = first .before .before .before .before .before .before in
+    let words = surveyed-words (asked s) (s .pre .0) (s .pre .1) (first .before .before .before .survey .ensures) (sound first) in
     sym (c .contains .ensures ∙ free-offers (asked s) (s .pre .0) (s .pre .1) (formed first) (words .0) (words .1) (s .args .vertex .0) (omega arith))
 
 may-be-next : (c : tie.After-is-open)
-    → let s = c .before .before .before .before .before .before .before .before .before .before .before .before .before in
+    → let s = c .before .before .before .before .before .before .before .before .before .before .before .before .before .before .before .before .before .before in
     offers (asked s) (s .args .vertex .0) ≡ c .is-open .result
 unfolding plan walk
 may-be-next c =
-    let first = c .before .before .before .before .before .before .before .before in
-    let s = first .before .before .before .before .before in
-    let words = surveyed-words (asked s) (s .pre .0) (s .pre .1) (first .before .before .survey .ensures) (sound first) in
+    let first = c .before .before .before .before .before .before .before .before .before .before .before .before in
+    let s = first .before .before .before .before .before .before in
+    let words = surveyed-words (asked s) (s .pre .0) (s .pre .1) (first .before .before .before .survey .ensures) (sound first) in
     sym (c .is-open .ensures ∙ open-offers (asked s) (s .pre .0) (s .pre .1) (formed first) (words .0) (words .1) (s .args .vertex .0))
 
 -- ---- the tests in their order
 
-past-1 : (c : tie.Else1) → Past 1 (c .before .before .before .before .before)
+past-1 : (c : tie.Else1) → Past 1 (c .before .before .before .before .before .before)
 unfolding placeTests
-past-1 c = tried-one (tried-none _) (ap not (sym (told (c .before .before))) ∙ c .if1 .left)
+past-1 c = tried-one (tried-none _) (ap not (sym (told (c .before .before .before))) ∙ c .if1 .left)
 
-past-2 : (c : tie.Else2) → Past 2 (c .before .before .before .before .before .before)
+past-2 : (c : tie.Else2) → Past 2 (c .before .before .before .before .before .before .before)
 unfolding placeTests
 past-2 c = tried-one (past-1 (c .before)) (ne-eqb _ _ (c .if2 .left))
 
-past-3 : (c : tie.Else3) → Past 3 (c .before .before .before .before .before .before .before)
+past-3 : (c : tie.Else3) → Past 3 (c .before .before .before .before .before .before .before .before)
 unfolding placeTests
 past-3 c = tried-one (past-2 (c .before)) (lt-leb _ _ (c .if3 .left))
 
-past-4 : (c : tie.Else4) → Past 4 (c .before .before .before .before .before .before .before .before .before)
+past-4 : (c : tie.Else4) → Past 4 (c .before .before .before .before .before .before .before .before .before .before)
 unfolding placeTests
 past-4 c = tried-one (past-3 (c .before .before)) (not-true _ (unplaced (c .before) ∙ not-false _ (c .if4 .left)))
 
-past-5 : (c : tie.Else5) → Past 5 (c .before .before .before .before .before .before .before .before .before .before .before .before .before .before)
+past-5 : (c : tie.Else5) → Past 5 (c .before .before .before .before .before .before .before .before .before .before .before .before .before .before .before .before .before .before .before)
 unfolding placeTests
-past-5 c = tried-one (past-4 (c .before .before .before .before .before)) (ap not (may-be-next (c .before)) ∙ c .if5 .left)
+past-5 c = tried-one (past-4 (c .before .before .before .before .before .before .before .before .before)) (ap not (may-be-next (c .before)) ∙ c .if5 .left)
 
 survey-requires : tie.Need-survey-requires
 survey-requires c κs = search needs
@@ -94,7 +94,7 @@ cast-v c = search needs
 
 returns : tie.Need-returns
 unfolding placeAnswer placeTests number refusalOf
-returns c = refused-here (tried-none _) (ap not (sym (told (c .before .before))) ∙ c .if1 .taken)
+returns c = refused-here (tried-none _) (ap not (sym (told (c .before .before .before))) ∙ c .if1 .taken)
 
 returns-2 : tie.Need-returns-2
 unfolding placeAnswer placeTests number refusalOf
@@ -114,20 +114,20 @@ returns-4 c = refused-here (past-3 (c .before .before)) (not-false _ (unplaced (
 slice-aggregate-is-open : tie.Need-slice-aggregate-is-open
 unfolding plan
 slice-aggregate-is-open c =
-    let first = c .before .before .before .before .before in
-    let s = first .before .before .before .before .before in
+    let first = c .before .before .before .before .before .before .before .before in
+    let s = first .before .before .before .before .before .before in
     sym (plan-length (asked s) (s .pre .0) (s .pre .1) (formed first .points))
 
 is-open-requires : tie.Need-is-open-requires
 unfolding plan
 is-open-requires c κs =
-    let first = c .before .before .before .before .before .before .before in
-    let s = first .before .before .before .before .before in
-    surveyed-tallied (asked s) (s .pre .0) (s .pre .1) (first .before .before .survey .ensures) (sound first)
+    let first = c .before .before .before .before .before .before .before .before .before .before .before in
+    let s = first .before .before .before .before .before .before in
+    surveyed-consistent (asked s) (s .pre .0) (s .pre .1) (first .before .before .before .survey .ensures) (sound first)
 
 returns-5 : tie.Need-returns-5
 unfolding placeAnswer placeTests number refusalOf
-returns-5 c = refused-here (past-4 (c .before .before .before .before .before)) (ap not (may-be-next (c .before)) ∙ c .if5 .taken)
+returns-5 c = refused-here (past-4 (c .before .before .before .before .before .before .before .before .before)) (ap not (may-be-next (c .before)) ∙ c .if5 .taken)
 
 returns-6 : tie.Need-returns-6
 unfolding placeAnswer placeTests number refusalOf

@@ -1,0 +1,24 @@
+-- `labels::first_kept` meets its contract.
+-- Assumes nothing.
+use mathlib.Core.Path.{sym, subst}
+use Prim.Native.Nat.{ℕ}
+use lib.Dec.{T, eqb, eqb→eq, eqb-refl}
+use Rattle.bitset.proofs.Tests.{cond-yes, cond-no}
+use Rattle.labels.specs.Words.{firstKept}
+use Rattle.labels.proofs.first_kept.Statement.{statement}
+use Rattle.labels.proofs.first_kept.Tie as tie
+
+returns : tie.Need-returns
+unfolding firstKept
+returns c =
+    let a = c .before .args in
+    sym (cond-yes (eqb (a .kept) 64) (a .position) (a .kept) (subst (λ (x : ℕ). T (eqb x 64)) (sym (c .if1 .taken)) (eqb-refl 64)))
+
+returns-2 : tie.Need-returns-2
+unfolding firstKept
+returns-2 c =
+    let a = c .before .args in
+    sym (cond-no (eqb (a .kept) 64) (a .position) (a .kept) (λ t. c .if1 .left (eqb→eq (a .kept) 64 t)))
+
+pub first-kept-spec : {M : Type 1} → statement M
+first-kept-spec = tie.close (tie.spec returns returns-2)
