@@ -47,7 +47,7 @@ valid-both-ways kind rows a u v l h = same-test (arcs rows u v) (arcs rows v u) 
     back u v l h t = not-not (arcs rows v u) (not-T (not (arcs rows v u)) (λ none. a .1 .1 .1 .1 .0 (oneWay-in rows u v l h t (T-not (arcs rows v u) none))))
 
 module _ (rows w : List ℕ) (k : ℕ) (x : Judgeable rows w k) where
-  pub replayable : Replayable rows w k (replicate 64 0) (replicate 64 64) (replicate 64 64)
+  pub replayable : Replayable rows w k (replicate 64 0) (replicate 64 64) (replicate 64 0)
   replayable = record {
     long = x .ordering .long;
     fits = ordering-fits (length rows) (x .ordering);

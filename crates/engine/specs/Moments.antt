@@ -11,7 +11,7 @@ use Rattle.steps.specs.Steps.{labelsAfter, smallestAfter, largestAfter, placedA
 use Rattle.engine.specs.declared.after.Moment.{Moment}
 
 unfoldable pub noMoment : Moment
-noMoment = record { passes = false; placed = 0; free = 0; labels = replicate 64 0; smallest = replicate 64 64; largest = replicate 64 64 }
+noMoment = record { passes = false; placed = 0; free = 0; labels = replicate 64 0; smallest = replicate 64 64; largest = replicate 64 0 }
 
 unfoldable pub momentOf : List ℕ → List ℕ → Moment
 momentOf rows w = record {

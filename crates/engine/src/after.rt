@@ -21,7 +21,7 @@ pub fn no_moment() -> Moment
 {
     let labels = [0u64; 64];
     let smallest = [64u8; 64];
-    let largest = [64u8; 64];
+    let largest = [0u8; 64];
     Moment {
         passes: false,
         placed: 0,
@@ -38,7 +38,7 @@ pub fn after(kind: Kind, rows: &[u64], ordering: &[u8]) -> Moment
 {
     let mut labels = [0u64; 64];
     let mut smallest = [64u8; 64];
-    let mut largest = [64u8; 64];
+    let mut largest = [0u8; 64];
     let checked = checks::judge_refusal(kind, rows, ordering);
     if let Outcome::Refused(_) = checked {
         return no_moment();

@@ -39,7 +39,7 @@ fn verdict(kind: Kind, rows: &[u64], ordering: &[u8]) -> Judgement
 {
     let mut labels = [0u64; 64];
     let mut smallest = [64u8; 64];
-    let mut largest = [64u8; 64];
+    let mut largest = [0u8; 64];
     let k = ordering.len();
     let placed = steps::replay::replay(
         kind,
@@ -97,7 +97,7 @@ fn extend(kind: Kind, rows: &[u64], tie_break: &[u8], output: &mut [u8], k: usiz
 {
     let mut labels = [0u64; 64];
     let mut smallest = [64u8; 64];
-    let mut largest = [64u8; 64];
+    let mut largest = [0u8; 64];
     let placed = steps::replay::replay(
         kind,
         rows,

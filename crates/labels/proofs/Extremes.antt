@@ -1,101 +1,110 @@
 -- The smallest and the largest position of a label, as they are kept in a byte each: all that BFS and DFS look at.
 --   smallest-byte                     the byte of the smallest position is where the search for the first one ends
---   largest-byte, largest-empty       the byte of the largest position is the last one; it is 64 exactly when the label is empty
+--   largest-byte, largest-empty       the byte of the largest position is one more than the last one, and 0 where the label is empty
 --   dfs-bytes, unexcused-dfs          the comparison of two largest positions is DFS's
 --   bfs-ahead, dfs-ahead, bfs-unexcused, dfs-unexcused   what the code computes of two profiles is what aheadIn and unexcusedIn say
 -- Assumes nothing.
-use mathlib.Core.Path.{_≡_, sym, ap, ap₂, _∙_, subst}
+use mathlib.Core.Path.{_≡_, sym, ap, ap₂, _∙_}
 use mathlib.Core.Bool.{Bool, not, _&&_, _||_}
 use mathlib.Core.Logic.{_⊎_, inl, inr}
-use Prim.Native.Nat.{ℕ, _<_, _≤_}
+use Prim.Native.Nat.{ℕ, suc, _<_, _≤_}
 use native.Mathlib.Omega.{arith}
-use lib.Dec.{T, ltb, leb, eqb, ltb→lt, lt→ltb, leb→le, le→leb, eqb→eq, not-T, T-not}
+use lib.Dec.{T, ltb, leb, ltb→lt, lt→ltb, leb→le, le→leb, not-T, T-not}
 use Rattle.bitset.specs.Below.{anyBelow, firstBelow, lastBelow}
 use Rattle.bitset.specs.Word.{member}
-use Rattle.bitset.proofs.Tests.{and-in, and-out, and-same, or-inl, or-inr, or-out, not-not, decided, same-test, is-true, below-or}
+use Rattle.bitset.proofs.Tests.{and-in, and-out, or-inl, or-inr, or-out, not-not, decided, same-test, below-or}
 use Rattle.bitset.proofs.Below.{Some, IsLast, any-out, any-in, any-at, first-unique, last}
 use Rattle.searches.specs.Kind.{Search, bfs, dfs}
 use Rattle.searches.specs.Label.{empty, nearer, outranks}
 use Rattle.searches.specs.Running.{smallestIn, largestIn}
 use Rattle.searches.specs.Violation.{condition, meets}
 use Rattle.searches.proofs.Running.{smallest-found, smallest-absent, largest-found, largest-absent}
-use Rattle.labels.specs.Words.{byteOf, profileOf, aheadIn, unexcusedIn}
+use Rattle.labels.specs.Words.{smallestByte, largestByte, profileOf, aheadIn, unexcusedIn}
 use Rattle.labels.specs.declared.profile.Profile.{Profile}
 use Rattle.labels.proofs.Comparison.{bfs-words, unexcused-bfs}
 
 -- ---- the two bytes of a label
 
 module _ (f : ℕ → Bool) where
-  pub smallest-byte : byteOf (smallestIn 64 f) ≡ firstBelow 64 f
-  unfolding byteOf
+  pub smallest-byte : smallestByte (smallestIn 64 f) ≡ firstBelow 64 f
+  unfolding smallestByte
   smallest-byte = go (decided (anyBelow 64 f))
     where
-      go : T (anyBelow 64 f) ⊎ (T (anyBelow 64 f) → ⊥) → byteOf (smallestIn 64 f) ≡ firstBelow 64 f
-      go (inl t) = ap byteOf (smallest-found 64 f t)
+      go : T (anyBelow 64 f) ⊎ (T (anyBelow 64 f) → ⊥) → smallestByte (smallestIn 64 f) ≡ firstBelow 64 f
+      go (inl t) = ap smallestByte (smallest-found 64 f t)
       go (inr out) =
-          ap byteOf (smallest-absent 64 f out)
+          ap smallestByte (smallest-absent 64 f out)
           ∙ first-unique (record { within = omega arith; holds = λ l. absurd (omega arith); least = λ i l p. out (any-at 64 f i l p) })
 
-  pub largest-byte : T (anyBelow 64 f) → byteOf (largestIn 64 f) ≡ lastBelow 64 f
-  unfolding byteOf
-  largest-byte t = ap byteOf (largest-found 64 f t)
+  pub largest-byte : T (anyBelow 64 f) → largestByte (largestIn 64 f) ≡ suc (lastBelow 64 f)
+  unfolding largestByte
+  largest-byte t = ap largestByte (largest-found 64 f t)
 
-  pub largest-empty : eqb (byteOf (largestIn 64 f)) 64 ≡ empty 64 f
-  unfolding byteOf empty
-  largest-empty = same-test (eqb (byteOf (largestIn 64 f)) 64) (not (anyBelow 64 f)) forth back
-    where
-      forth : T (eqb (byteOf (largestIn 64 f)) 64) → T (not (anyBelow 64 f))
-      forth t = not-T (anyBelow 64 f) (λ u. omega (arith, eqb→eq (byteOf (largestIn 64 f)) 64 t, largest-byte u, last (any-out 64 f u) .below))
-
-      back : T (not (anyBelow 64 f)) → T (eqb (byteOf (largestIn 64 f)) 64)
-      back t = subst (λ (x : ℕ). T (eqb x 64)) (sym (ap byteOf (largest-absent 64 f (T-not (anyBelow 64 f) t)))) tt
+  pub largest-empty : (T (anyBelow 64 f) → ⊥) → largestByte (largestIn 64 f) ≡ 0
+  unfolding largestByte
+  largest-empty out = ap largestByte (largest-absent 64 f out)
 
 -- ---- DFS, by the largest position of each label
 
 module _ (c b : ℕ) where
   abbrev largest : ℕ → ℕ
-  largest x = byteOf (largestIn 64 (member x))
+  largest x = largestByte (largestIn 64 (member x))
 
-  pub dfs-bytes : (not (eqb (largest c) 64) && (eqb (largest b) 64 || ltb (largest b) (largest c))) ≡ aheadIn dfs c b
+  pub dfs-bytes : ltb (largest b) (largest c) ≡ aheadIn dfs c b
   unfolding aheadIn outranks nearer empty
-  dfs-bytes =
-      ap₂ (λ (x y : Bool). not x && (y || ltb (largest b) (largest c))) (largest-empty (member c)) (largest-empty (member b))
-      ∙ and-same (not (empty 64 (member c))) (empty 64 (member b) || ltb (largest b) (largest c))
-      (empty 64 (member b) || ltb (lastBelow 64 (member b)) (lastBelow 64 (member c))) (λ t. go (not-not (anyBelow 64 (member c)) t) (decided (anyBelow 64 (member b))))
+  dfs-bytes = same-test (ltb (largest b) (largest c)) (not (not some-c) && (not some-b || later)) (λ t. forth (ltb→lt (largest b) (largest c) t) (decided some-c) (decided some-b)) back
     where
-      go : T (anyBelow 64 (member c)) → T (anyBelow 64 (member b)) ⊎ (T (anyBelow 64 (member b)) → ⊥)
-          → (empty 64 (member b) || ltb (largest b) (largest c)) ≡ (empty 64 (member b) || ltb (lastBelow 64 (member b)) (lastBelow 64 (member c)))
-      go t (inl u) = ap₂ (λ (x y : ℕ). empty 64 (member b) || ltb x y) (largest-byte (member b) u) (largest-byte (member c) t)
-      go t (inr out) =
-          let none-there = is-true (not (anyBelow 64 (member b))) (not-T (anyBelow 64 (member b)) out) in
-          ap (λ (x : Bool). x || ltb (largest b) (largest c)) none-there
-          ∙ sym (ap (λ (x : Bool). x || ltb (lastBelow 64 (member b)) (lastBelow 64 (member c))) none-there)
+      some-c : Bool
+      some-c = anyBelow 64 (member c)
 
-  pub unexcused-dfs : (i : ℕ) → (eqb (largest b) 64 || leb (largest b) i) ≡ unexcusedIn dfs i c b
-  unfolding unexcusedIn condition meets empty
+      some-b : Bool
+      some-b = anyBelow 64 (member b)
+
+      later : Bool
+      later = ltb (lastBelow 64 (member b)) (lastBelow 64 (member c))
+
+      forth : largest b < largest c → T some-c ⊎ (T some-c → ⊥) → T some-b ⊎ (T some-b → ⊥) → T (not (not some-c) && (not some-b || later))
+      forth l (inr out) b-known = absurd (omega (arith, largest-empty (member c) out))
+      forth l (inl t) (inl u) =
+          and-in (not (not some-c)) (not some-b || later) (not-T (not some-c) (λ n. T-not some-c n t))
+          (or-inr (not some-b) later (lt→ltb (lastBelow 64 (member b)) (lastBelow 64 (member c)) (omega (arith, largest-byte (member c) t, largest-byte (member b) u))))
+      forth l (inl t) (inr out) =
+          and-in (not (not some-c)) (not some-b || later) (not-T (not some-c) (λ n. T-not some-c n t)) (or-inl (not some-b) later (not-T some-b out))
+
+      behind : T some-c → T some-b ⊎ (T some-b → ⊥) → T (not some-b) ⊎ T later → largest b < largest c
+      behind t (inr out) either = omega (arith, largest-byte (member c) t, largest-empty (member b) out)
+      behind t (inl u) (inl none-there) = absurd (T-not some-b none-there u)
+      behind t (inl u) (inr l) =
+          omega (arith, largest-byte (member c) t, largest-byte (member b) u, ltb→lt (lastBelow 64 (member b)) (lastBelow 64 (member c)) l)
+
+      back : T (not (not some-c) && (not some-b || later)) → T (ltb (largest b) (largest c))
+      back t =
+          let both = and-out (not (not some-c)) (not some-b || later) t in
+          lt→ltb (largest b) (largest c) (behind (not-not some-c (both .0)) (decided some-b) (or-out (not some-b) later (both .1)))
+
+  pub unexcused-dfs : (i : ℕ) → leb (largest b) (suc i) ≡ unexcusedIn dfs i c b
+  unfolding unexcusedIn condition meets
   unexcused-dfs i =
-      ap (λ (x : Bool). x || leb (largest b) i) (largest-empty (member b))
-      ∙ same-test (not (anyBelow 64 (member b)) || leb (largest b) i) (not (anyBelow 64 later))
-      (λ t. not-T (anyBelow 64 later) (λ u. none-later (any-out 64 later u) (or-out (not (anyBelow 64 (member b))) (leb (largest b) i) t))) (λ t. back t (decided (anyBelow 64 (member b))))
+      same-test (leb (largest b) (suc i)) (not (anyBelow 64 later)) (λ t. not-T (anyBelow 64 later) (λ u. none-later (any-out 64 later u) (leb→le (largest b) (suc i) t)))
+      (λ t. le→leb (largest b) (suc i) (back t (decided (anyBelow 64 (member b)))))
     where
       later : ℕ → Bool
       later d = member b d && ltb i d
 
-      none-later : Some 64 later → T (not (anyBelow 64 (member b))) ⊎ T (leb (largest b) i) → ⊥
-      none-later x (inl t) = T-not (anyBelow 64 (member b)) t (any-at 64 (member b) (x .at) (x .below) (and-out (member b (x .at)) (ltb i (x .at)) (x .holds) .0))
-      none-later x (inr t) =
+      none-later : Some 64 later → largest b ≤ suc i → ⊥
+      none-later x l =
           let both = and-out (member b (x .at)) (ltb i (x .at)) (x .holds) in
-          let some-there : Some 64 (member b) = record { at = x .at; below = x .below; holds = both .0 } in
-          omega (arith, leb→le (largest b) i t, largest-byte (member b) (any-in some-there), last some-there .greatest (x .at) (x .below) (both .0), ltb→lt i (x .at) (both .1))
+          let there : Some 64 (member b) = record { at = x .at; below = x .below; holds = both .0 } in
+          omega (arith, largest-byte (member b) (any-in there), last there .greatest (x .at) (x .below) (both .0), ltb→lt i (x .at) (both .1))
 
-      back : T (not (anyBelow 64 later)) → T (anyBelow 64 (member b)) ⊎ (T (anyBelow 64 (member b)) → ⊥) → T (not (anyBelow 64 (member b)) || leb (largest b) i)
-      back t (inr out) = or-inl (not (anyBelow 64 (member b))) (leb (largest b) i) (not-T (anyBelow 64 (member b)) out)
-      back t (inl u) = or-inr (not (anyBelow 64 (member b))) (leb (largest b) i) (le→leb (largest b) i (go (below-or i (lastBelow 64 (member b)))))
+      back : T (not (anyBelow 64 later)) → T (anyBelow 64 (member b)) ⊎ (T (anyBelow 64 (member b)) → ⊥) → largest b ≤ suc i
+      back t (inr out) = omega (arith, largest-empty (member b) out)
+      back t (inl u) = go (below-or i (lastBelow 64 (member b)))
         where
           top : IsLast 64 (member b) (lastBelow 64 (member b))
           top = last (any-out 64 (member b) u)
 
-          go : (i < lastBelow 64 (member b)) ⊎ (lastBelow 64 (member b) ≤ i) → largest b ≤ i
+          go : (i < lastBelow 64 (member b)) ⊎ (lastBelow 64 (member b) ≤ i) → largest b ≤ suc i
           go (inl l) =
               absurd (T-not (anyBelow 64 later) t (any-at 64 later (lastBelow 64 (member b)) (top .below)
               (and-in (member b (lastBelow 64 (member b))) (ltb i (lastBelow 64 (member b))) (top .holds) (lt→ltb i (lastBelow 64 (member b)) l))))
@@ -108,7 +117,7 @@ module _ (s : Search) (c b : Profile) (of-c : c ≡ profileOf s (c .label)) (of-
   unfolding profileOf
   smallest-of x e = ap (λ (y : Profile). y .smallest) e ∙ smallest-byte (member (x .label))
 
-  largest-of : (x : Profile) → x ≡ profileOf s (x .label) → x .largest ≡ byteOf (largestIn 64 (member (x .label)))
+  largest-of : (x : Profile) → x ≡ profileOf s (x .label) → x .largest ≡ largestByte (largestIn 64 (member (x .label)))
   unfolding profileOf
   largest-of x e = ap (λ (y : Profile). y .largest) e
 
@@ -117,9 +126,9 @@ module _ (s : Search) (c b : Profile) (of-c : c ≡ profileOf s (c .label)) (of-
       ap₂ (λ (x y : ℕ). ltb x y) (smallest-of c of-c) (smallest-of b of-b) ∙ bfs-words (c .label) (b .label)
       ∙ ap (λ (k : Search). aheadIn k (c .label) (b .label)) (sym e)
 
-  pub dfs-ahead : s ≡ dfs → (not (eqb (c .largest) 64) && (eqb (b .largest) 64 || ltb (b .largest) (c .largest))) ≡ aheadIn s (c .label) (b .label)
+  pub dfs-ahead : s ≡ dfs → ltb (b .largest) (c .largest) ≡ aheadIn s (c .label) (b .label)
   dfs-ahead e =
-      ap₂ (λ (x y : ℕ). not (eqb x 64) && (eqb y 64 || ltb y x)) (largest-of c of-c) (largest-of b of-b) ∙ dfs-bytes (c .label) (b .label)
+      ap₂ (λ (x y : ℕ). ltb x y) (largest-of b of-b) (largest-of c of-c) ∙ dfs-bytes (c .label) (b .label)
       ∙ ap (λ (k : Search). aheadIn k (c .label) (b .label)) (sym e)
 
   module _ (i : ℕ) where
@@ -128,7 +137,7 @@ module _ (s : Search) (c b : Profile) (of-c : c ≡ profileOf s (c .label)) (of-
         ap (λ (x : ℕ). leb i x) (smallest-of b of-b) ∙ unexcused-bfs i (c .label) (b .label) l
         ∙ ap (λ (k : Search). unexcusedIn k i (c .label) (b .label)) (sym e)
 
-    pub dfs-unexcused : s ≡ dfs → (eqb (b .largest) 64 || leb (b .largest) i) ≡ unexcusedIn s i (c .label) (b .label)
+    pub dfs-unexcused : s ≡ dfs → leb (b .largest) (suc i) ≡ unexcusedIn s i (c .label) (b .label)
     dfs-unexcused e =
-        ap (λ (x : ℕ). eqb x 64 || leb x i) (largest-of b of-b) ∙ unexcused-dfs (c .label) (b .label) i
+        ap (λ (x : ℕ). leb x (suc i)) (largest-of b of-b) ∙ unexcused-dfs (c .label) (b .label) i
         ∙ ap (λ (k : Search). unexcusedIn k i (c .label) (b .label)) (sym e)

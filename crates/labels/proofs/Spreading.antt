@@ -160,4 +160,4 @@ module _ (put : ℕ → ℕ) where
 abbrev pub Placing : ℕ → ℕ → ℕ → List ℕ → List ℕ → List ℕ → List ℕ → List ℕ → List ℕ → ℕ → Type 0
 Placing p row n labels₀ smallest₀ largest₀ labels smallest largest rest =
     Spreading (λ x. inserted x p) row n labels₀ labels rest × Spreading (λ x. firstKept p x) row n smallest₀ smallest rest
-    × Spreading (λ x. p) row n largest₀ largest rest
+    × Spreading (λ x. suc p) row n largest₀ largest rest

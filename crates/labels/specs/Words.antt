@@ -2,7 +2,8 @@
 -- running values beside them, `free` is the set of the unplaced vertices.
 --   tally rows placed v           how many of `placed` are in v's row: ones counted in row AND placed mask          [01: the form for MCS]
 --   Tallied rows labels placed    that is for every vertex how many positions its label holds
---   byteOf x                      how a running value is kept: its position, 64 where there is none
+--   smallestByte x, largestByte x   how a running value is kept: the smallest position as it is, 64 where there is none; one more than the
+--                                 largest, 0 where there is none
 --   Tracked labels smallest largest   for every vertex the running values are the smallest and the largest position in its label
 --   Consistent rows labels smallest largest placed   Tallied and Tracked: what is kept beside the labels agrees with them
 --   countIn s label               how many positions a label holds, for MCS; 0 for the other searches, which do not count
@@ -14,7 +15,8 @@
 --   joinedIn row p v label        v's label, with p put in where v is in row
 --   spreadTo row p i labels       the labels, with p put into those of the vertices below i that are in row
 --   firstKept p x                 the smallest position x, or p where there is none
---   smallestTo, largestTo row p i kept   the running values, with p placed in row: p where there was no smallest, p for every largest
+--   smallestTo, largestTo row p i kept   the running values of the vertices below i that are in row, with p put in: the smallest is p where there
+--                                 was none, the largest is p
 --   beatenIn s labels free mine   a free vertex has a label ahead of `mine`
 --   openIn s labels free v        v is free and not beaten
 --   chosenIn s labels free t      of the open vertices, the one that stands last in t
@@ -42,14 +44,18 @@ tally rows placed v = countBelow 64 (member (common (getD rows v 0) placed))
 abbrev pub Tallied : List ℕ → List ℕ → ℕ → Type 0
 Tallied rows labels placed = (v : ℕ) → v < 64 → tally rows placed v ≡ countBelow 64 (member (getD labels v 0))
 
-unfoldable pub byteOf : Option ℕ → ℕ
-byteOf none = 64
-byteOf (some p) = p
+unfoldable pub smallestByte : Option ℕ → ℕ
+smallestByte none = 64
+smallestByte (some p) = p
+
+unfoldable pub largestByte : Option ℕ → ℕ
+largestByte none = 0
+largestByte (some p) = suc p
 
 abbrev pub Tracked : List ℕ → List ℕ → List ℕ → Type 0
 Tracked labels smallest largest =
     (v : ℕ) → v < 64
-    → (getD smallest v 0 ≡ byteOf (smallestIn 64 (member (getD labels v 0)))) × (getD largest v 0 ≡ byteOf (largestIn 64 (member (getD labels v 0))))
+    → (getD smallest v 0 ≡ smallestByte (smallestIn 64 (member (getD labels v 0)))) × (getD largest v 0 ≡ largestByte (largestIn 64 (member (getD labels v 0))))
 
 pub record Consistent (rows labels smallest largest : List ℕ) (placed : ℕ) : Type 0 where
   pub tallied : Tallied rows labels placed
@@ -68,8 +74,8 @@ unfoldable pub profileOf : Search → ℕ → Profile
 profileOf s label = record {
   label = label;
   count = countIn s label;
-  smallest = byteOf (smallestIn 64 (member label));
-  largest = byteOf (largestIn 64 (member label));
+  smallest = smallestByte (smallestIn 64 (member label));
+  largest = largestByte (largestIn 64 (member label));
 }
 
 unfoldable pub aheadIn : Search → ℕ → ℕ → Bool
@@ -98,7 +104,7 @@ abbrev pub smallestTo : ℕ → ℕ → ℕ → List ℕ → List ℕ
 smallestTo row p i smallest = spreadBy (λ x. firstKept p x) row i smallest
 
 abbrev pub largestTo : ℕ → ℕ → ℕ → List ℕ → List ℕ
-largestTo row p i largest = spreadBy (λ x. p) row i largest
+largestTo row p i largest = spreadBy (λ x. suc p) row i largest
 
 module _ (s : Search) where
   unfoldable pub beatenIn : List ℕ → ℕ → ℕ → Bool

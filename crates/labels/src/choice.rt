@@ -28,16 +28,14 @@ fn champion(
         return Vertex(first);
     }
     let mut best = Vertex(bitset::smallest(front) as u8);
+    let mut lead = profile_of(kind, rows, labels, smallest, largest, placed, best);
     let mut rest = bitset::without_smallest(front);
     while rest != 0 {
         let u = Vertex(bitset::smallest(rest) as u8);
-        let lead = profile_of(kind, rows, labels, smallest, largest, placed, best);
-        if crate::is_ahead(
-            kind,
-            profile_of(kind, rows, labels, smallest, largest, placed, u),
-            lead,
-        ) {
+        let next = profile_of(kind, rows, labels, smallest, largest, placed, u);
+        if crate::is_ahead(kind, next, lead) {
             best = u;
+            lead = next;
         }
         rest = bitset::without_smallest(rest);
     }

@@ -1,6 +1,7 @@
 // Labels kept as words: bit p of a vertex's word is set when the vertex at position p leads to it. Beside them stand the running values: each
-// vertex's smallest and largest position, 64 where it has none. What is compared of a vertex, the comparison of two, the step that a placed
-// vertex makes, and the choice by a tie-break.
+// vertex's smallest position, 64 where it has none, and one more than its largest position, 0 where it has none. So the one that is ahead in BFS
+// has the smaller byte, and in DFS the greater. What is compared of a vertex, the comparison of two, the step that a placed vertex makes, and the
+// choice by a tie-break.
 pub mod choice;
 pub mod profile;
 
@@ -29,7 +30,7 @@ pub fn is_ahead(kind: Kind, c: Profile, b: Profile) -> bool
             return c.smallest < b.smallest;
         }
         if search == Kind::DFS.0 {
-            return (c.largest != 64) & ((b.largest == 64) | (b.largest < c.largest));
+            return b.largest < c.largest;
         }
         return (c.label != 0) & (b.label == 0);
     }
@@ -56,7 +57,7 @@ pub fn is_unexcused(kind: Kind, position: Position, c: Profile, b: Profile) -> b
         return i <= b.smallest as usize;
     }
     if search == Kind::DFS.0 {
-        return (b.largest == 64) | (b.largest as usize <= i);
+        return b.largest as usize <= i + 1;
     }
     if search == Kind::LEX_BFS.0 {
         return i <= bitset::smallest(bitset::without(b.label, c.label));
@@ -97,6 +98,7 @@ pub fn spread(
 {
     let p = position.0;
     let latest = p as u8;
+    let past = latest + 1;
     let mut rest = row;
     while rest != 0 {
         let v = bitset::smallest(rest);
@@ -104,7 +106,7 @@ pub fn spread(
             let first = first_kept(smallest[v], latest);
             labels[v] = bitset::insert(labels[v], p);
             smallest[v] = first;
-            largest[v] = latest;
+            largest[v] = past;
         }
         rest = bitset::without_smallest(rest);
     }

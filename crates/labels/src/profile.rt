@@ -7,8 +7,8 @@ ghost use lib.ListN.{getD};
 ghost use Rattle.searches.specs.Kind.{searchOf};
 ghost use Rattle.labels.specs.Words.{tally, profileOf, Consistent};
 
-// What is compared of a vertex: its label, for MCS how many positions the label holds (in every other search the count is 0), and the label's
-// smallest and largest position, 64 where it has none.
+// What is compared of a vertex: its label, for MCS how many positions the label holds (in every other search the count is 0), the label's smallest
+// position, 64 where it has none, and one more than its largest position, 0 where it has none.
 pub struct Profile {
     pub label: u64,
     pub count: usize,

@@ -123,7 +123,7 @@ module _ (s : Search) (rows : List ℕ) (small : length rows ≤ 64) where
         ordering = ordering-grown w v o (fresh .0) (fresh .1);
         labelled = grown (λ q x. inserted x q) 0 at-labels (a .labelled);
         firsts = grown (λ q x. firstKept q x) 64 at-smallest (a .firsts);
-        lasts = grown (λ q x. q) 64 at-largest (a .lasts);
+        lasts = grown (λ q x. suc q) 0 at-largest (a .lasts);
         set = at-set ∙ ap (λ (x : ℕ). inserted x v) (after (λ m. placedAfter w m) (a .set)) ∙ sym (set-grown w v);
         unplaced = at-free ∙ ap (λ (x : ℕ). removed x v) (after (λ m. freeAfter n w m) (a .unplaced)) ∙ sym (free-grown w v n);
       })
@@ -160,7 +160,7 @@ module _ (rows : List ℕ) where
     ordering = ordering-agree (length rows) (take k w) (omega (arith, length-take-le k w (o .long))) same o;
     labelled = labels-agree rows w (take k w) k same;
     firsts = kept-agree (λ q x. firstKept q x) 64 rows w (take k w) k same;
-    lasts = kept-agree (λ q x. q) 64 rows w (take k w) k same;
+    lasts = kept-agree (λ q x. suc q) 0 rows w (take k w) k same;
     set = set-agree w (take k w) k same;
     unplaced = free-agree (length rows) w (take k w) k same;
   }

@@ -6,7 +6,7 @@
 use mathlib.Core.Path.{_≡_, refl, sym, ap, ap₂, _∙_, subst}
 use mathlib.Core.Logic.{_⊎_, inl, inr}
 use mathlib.Core.List.{List}
-use Prim.Native.Nat.{ℕ, _+_, _≤_, _<_}
+use Prim.Native.Nat.{ℕ, suc, _+_, _≤_, _<_}
 use native.Mathlib.Omega.{arith}
 use native.Mathlib.Numerals.{add-one}
 use lib.Dec.{T}
@@ -74,7 +74,7 @@ module _ (s : Search) (rows w : List ℕ) (k : ℕ) where
         upto = l;
         labelled = grown (λ x. inserted x j) e (r .labelled);
         firsts = grown (λ x. firstKept j x) e-smallest (r .firsts);
-        lasts = grown (λ x. j) e-largest (r .lasts);
+        lasts = grown (λ x. suc j) e-largest (r .lasts);
         set = i ∙ ap₂ (λ (x v : ℕ). inserted x v) (r .set) h;
         unplaced = f ∙ ap₂ (λ (x v : ℕ). removed x v) (r .unplaced) h;
         met = g ∙ ap₂ (λ (x v : ℕ). united x (getD rows v 0)) (r .met) h;

@@ -11,7 +11,7 @@ use mathlib.Core.List.{List}
 use Prim.Native.Nat.{ℕ, zero, suc, _≤_, _<_}
 use native.Mathlib.Omega.{arith}
 use lib.Dec.{T, eqb, eqb→eq}
-use lib.ListN.{length, getD, getD-replicate, List·getD-eq-default}
+use lib.ListN.{length, getD, List·getD-eq-default}
 use Rattle.bitset.specs.Below.{anyBelow, countBelow}
 use Rattle.bitset.specs.Word.{member, inserted, common}
 use Rattle.bitset.proofs.Tests.{and-in, and-out, and-true, or-inl, or-inr, or-out, same-test, below-or}

@@ -4,26 +4,26 @@
 --   tracked-after                       after each vertex of an ordering they are the label's smallest and largest position
 --   consistent-after                    so what is kept beside the labels agrees with them, also the count in row AND placed mask
 -- Assumes nothing.
-use mathlib.Core.Path.{_≡_, refl, sym, ap, ap₂, _∙_, subst}
+use mathlib.Core.Path.{_≡_, refl, sym, ap, _∙_, subst}
 use mathlib.Core.Bool.{Bool, true, false, cond, _&&_}
 use mathlib.Core.Logic.{_⊎_, inl, inr}
 use mathlib.Core.List.{List}
-use mathlib.Core.Option.{Option, none, some}
+use mathlib.Core.Option.{Option, some}
 use Prim.Native.Nat.{ℕ, zero, suc, _≤_, _<_}
 use native.Mathlib.Omega.{arith}
-use lib.Dec.{T, ltb, eqb, eqb→eq}
+use lib.Dec.{T, ltb, eqb, eqb→eq, not-T}
 use lib.ListN.{length, getD}
 use Rattle.bitset.specs.Below.{anyBelow, firstBelow, lastBelow}
 use Rattle.bitset.specs.Word.{member, inserted}
 use Rattle.bitset.proofs.Tests.{decided, cond-no, below-or}
-use Rattle.bitset.proofs.Below.{any-out, any-at, any-fewer, first, first-found, first-unique, last, last-unique}
+use Rattle.bitset.proofs.Below.{any-out, any-fewer, first, first-found, first-unique, last, last-unique}
 use Rattle.bitset.proofs.Word.{empty-back}
 use Rattle.searches.specs.Ordering.{arcs, at, IsOrdering}
-use Rattle.searches.specs.Label.{label}
+use Rattle.searches.specs.Label.{label, empty}
 use Rattle.searches.specs.Running.{smallestIn, largestIn, keepFirst, runningSmallest, runningLargest}
 use Rattle.searches.proofs.Ordering.{ordering-fits}
-use Rattle.searches.proofs.Running.{smallest-found, smallest-absent, largest-found, largest-absent, smallest-kept, largest-kept}
-use Rattle.labels.specs.Words.{byteOf, changedBy, firstKept, Tracked, Consistent}
+use Rattle.searches.proofs.Running.{smallest-found, smallest-absent, largest-found, largest-absent, smallest-kept, largest-kept, smallest-none}
+use Rattle.labels.specs.Words.{smallestByte, largestByte, changedBy, firstKept, Tracked, Consistent}
 use Rattle.steps.specs.Steps.{labelsAfter, smallestAfter, largestAfter, placedAfter, BothWays}
 use Rattle.steps.proofs.Representation.{cut-same, cut-below, kept-start, kept-next, kept-beyond, label-members}
 use Rattle.steps.proofs.Tallying.{tallied-after}
@@ -76,67 +76,67 @@ module _ (rows w : List ℕ) (k : ℕ) (small : length rows ≤ 64) (o : IsOrder
   arc = arcs rows
 
   -- the byte is kept as the running value is
-  kept-first : (v j : ℕ) → j ≤ 64 → firstKept j (byteOf (runningSmallest arc w v j)) ≡ byteOf (keepFirst (runningSmallest arc w v j) j)
-  unfolding firstKept byteOf keepFirst
+  kept-first : (v j : ℕ) → j ≤ 64 → firstKept j (smallestByte (runningSmallest arc w v j)) ≡ smallestByte (keepFirst (runningSmallest arc w v j) j)
+  unfolding firstKept smallestByte keepFirst empty
   kept-first v j l = go (decided (anyBelow j (label arc w v)))
     where
       go : T (anyBelow j (label arc w v)) ⊎ (T (anyBelow j (label arc w v)) → ⊥)
-          → firstKept j (byteOf (runningSmallest arc w v j)) ≡ byteOf (keepFirst (runningSmallest arc w v j) j)
+          → firstKept j (smallestByte (runningSmallest arc w v j)) ≡ smallestByte (keepFirst (runningSmallest arc w v j) j)
       go (inl t) =
           let q = firstBelow j (label arc w v) in
           let e = smallest-kept arc w v j ∙ smallest-found j (label arc w v) t in
           let h = first-found (any-out j (label arc w v) t) in
-          ap (λ (x : Option ℕ). firstKept j (byteOf x)) e ∙ cond-no (eqb q 64) j q (λ u. omega (arith, eqb→eq q 64 u)) ∙ ap (λ (x : Option ℕ). byteOf (keepFirst x j)) (sym e)
+          ap (λ (x : Option ℕ). firstKept j (smallestByte x)) e ∙ cond-no (eqb q 64) j q (λ u. omega (arith, eqb→eq q 64 u)) ∙ ap (λ (x : Option ℕ). smallestByte (keepFirst x j)) (sym e)
       go (inr out) =
-          let e = smallest-kept arc w v j ∙ smallest-absent j (label arc w v) out in
-          ap (λ (x : Option ℕ). firstKept j (byteOf x)) e ∙ ap (λ (x : Option ℕ). byteOf (keepFirst x j)) (sym e)
+          let e = smallest-none arc w v j .1 (not-T (anyBelow j (label arc w v)) out) in
+          ap (λ (x : Option ℕ). firstKept j (smallestByte x)) e ∙ ap (λ (x : Option ℕ). smallestByte (keepFirst x j)) (sym e)
 
   -- a byte is chosen as the value is
-  byte-chosen : (b : Bool) (x y : Option ℕ) → cond b (byteOf x) (byteOf y) ≡ byteOf (cond b x y)
-  byte-chosen true x y = refl
-  byte-chosen false x y = refl
+  byte-chosen : (byte : Option ℕ → ℕ) (b : Bool) (x y : Option ℕ) → cond b (byte x) (byte y) ≡ byte (cond b x y)
+  byte-chosen byte true x y = refl
+  byte-chosen byte false x y = refl
 
-  pub smallest-running : (j : ℕ) → j ≤ k → (v : ℕ) → v < length rows → getD (smallestAfter rows w j) v 0 ≡ byteOf (runningSmallest arc w v j)
-  unfolding runningSmallest changedBy label arcs byteOf
+  pub smallest-running : (j : ℕ) → j ≤ k → (v : ℕ) → v < length rows → getD (smallestAfter rows w j) v 0 ≡ smallestByte (runningSmallest arc w v j)
+  unfolding runningSmallest changedBy label arcs smallestByte
   smallest-running zero h v l = kept-start (λ p x. firstKept p x) 64 rows w v (omega arith)
   smallest-running (suc j) h v l =
       let kept = runningSmallest arc w v j in
       let joins = member (getD rows (at w j) 0) v in
       kept-next (λ p x. firstKept p x) 64 rows w small j v l
       ∙ ap (λ (x : ℕ). cond joins (firstKept j x) x) (smallest-running j (omega arith) v l)
-      ∙ ap (λ (x : ℕ). cond joins x (byteOf kept)) (kept-first v j (omega (arith, ordering-fits (length rows) o)))
-      ∙ byte-chosen joins (keepFirst kept j) kept
+      ∙ ap (λ (x : ℕ). cond joins x (smallestByte kept)) (kept-first v j (omega (arith, ordering-fits (length rows) o)))
+      ∙ byte-chosen smallestByte joins (keepFirst kept j) kept
 
-  pub largest-running : (j : ℕ) → j ≤ k → (v : ℕ) → v < length rows → getD (largestAfter rows w j) v 0 ≡ byteOf (runningLargest arc w v j)
-  unfolding runningLargest changedBy label arcs byteOf
-  largest-running zero h v l = kept-start (λ p x. p) 64 rows w v (omega arith)
+  pub largest-running : (j : ℕ) → j ≤ k → (v : ℕ) → v < length rows → getD (largestAfter rows w j) v 0 ≡ largestByte (runningLargest arc w v j)
+  unfolding runningLargest changedBy label arcs largestByte
+  largest-running zero h v l = kept-start (λ p x. suc p) 0 rows w v (omega arith)
   largest-running (suc j) h v l =
       let joins = member (getD rows (at w j) 0) v in
-      kept-next (λ p x. p) 64 rows w small j v l ∙ ap (λ (x : ℕ). cond joins j x) (largest-running j (omega arith) v l)
-      ∙ byte-chosen joins (some j) (runningLargest arc w v j)
+      kept-next (λ p x. suc p) 0 rows w small j v l ∙ ap (λ (x : ℕ). cond joins (suc j) x) (largest-running j (omega arith) v l)
+      ∙ byte-chosen largestByte joins (some j) (runningLargest arc w v j)
 
   pub tracked-after : (j : ℕ) → j ≤ k → Tracked (labelsAfter rows w j) (smallestAfter rows w j) (largestAfter rows w j)
-  unfolding byteOf
+  unfolding smallestByte largestByte
   tracked-after j h v l = go (below-or v (length rows))
     where
       word : ℕ
       word = getD (labelsAfter rows w j) v 0
 
       go : (v < length rows) ⊎ (length rows ≤ v)
-          → (getD (smallestAfter rows w j) v 0 ≡ byteOf (smallestIn 64 (member word))) × (getD (largestAfter rows w j) v 0 ≡ byteOf (largestIn 64 (member word)))
+          → (getD (smallestAfter rows w j) v 0 ≡ smallestByte (smallestIn 64 (member word))) × (getD (largestAfter rows w j) v 0 ≡ largestByte (largestIn 64 (member word)))
       go (inl vertex) =
           let fits : j ≤ 64 = omega (arith, ordering-fits (length rows) o) in
           let cut = label-members rows w k small o j h v vertex in (
-            smallest-running j h v vertex ∙ ap byteOf (smallest-kept arc w v j ∙ sym (smallest-cut j 64 fits (member word) (label arc w v) cut)),
-            largest-running j h v vertex ∙ ap byteOf (largest-kept arc w v j ∙ sym (largest-cut j 64 fits (member word) (label arc w v) cut)),
+            smallest-running j h v vertex ∙ ap smallestByte (smallest-kept arc w v j ∙ sym (smallest-cut j 64 fits (member word) (label arc w v) cut)),
+            largest-running j h v vertex ∙ ap largestByte (largest-kept arc w v j ∙ sym (largest-cut j 64 fits (member word) (label arc w v) cut)),
           )
       go (inr beyond) =
           let none-there : T (anyBelow 64 (member word)) → ⊥ = λ t.
           let x = any-out 64 (member word) t in
           empty-back (kept-beyond (λ p x. inserted x p) 0 rows w j v l beyond) (x .at) (x .holds)
           in (
-            kept-beyond (λ p x. firstKept p x) 64 rows w j v l beyond ∙ ap byteOf (sym (smallest-absent 64 (member word) none-there)),
-            kept-beyond (λ p x. p) 64 rows w j v l beyond ∙ ap byteOf (sym (largest-absent 64 (member word) none-there)),
+            kept-beyond (λ p x. firstKept p x) 64 rows w j v l beyond ∙ ap smallestByte (sym (smallest-absent 64 (member word) none-there)),
+            kept-beyond (λ p x. suc p) 0 rows w j v l beyond ∙ ap largestByte (sym (largest-absent 64 (member word) none-there)),
           )
 
   pub consistent-after : BothWays rows → (j : ℕ) → j ≤ k → {labels smallest largest : List ℕ} {placed : ℕ} → labels ≡ labelsAfter rows w j

@@ -48,7 +48,7 @@ abbrev pub smallestAfter : List ℕ → List ℕ → ℕ → List ℕ
 smallestAfter rows w j = keptAfter (λ p x. firstKept p x) 64 rows w j
 
 abbrev pub largestAfter : List ℕ → List ℕ → ℕ → List ℕ
-largestAfter rows w j = keptAfter (λ p x. p) 64 rows w j
+largestAfter rows w j = keptAfter (λ p x. suc p) 0 rows w j
 
 unfoldable pub freeAfter : ℕ → List ℕ → ℕ → ℕ
 freeAfter n w zero = fullBelow n
@@ -119,7 +119,7 @@ pub record Replayable (rows w : List ℕ) (k : ℕ) (labels smallest largest : L
   pub both-ways : BothWays rows
   pub empty : labels ≡ replicate 64 0
   pub no-smallest : smallest ≡ replicate 64 64
-  pub no-largest : largest ≡ replicate 64 64
+  pub no-largest : largest ≡ replicate 64 0
 
 pub record Searchable (rows w : List ℕ) (k : ℕ) (labels smallest largest : List ℕ) (placed free j : ℕ) : Type 0 where
   pub long : k ≤ length w

@@ -5,7 +5,7 @@ use mathlib.Core.Bool.{Bool, not, _&&_}
 use mathlib.Core.Logic.{_≢_}
 use Prim.Native.Nat.{ℕ, _<_, _^_}
 use native.Mathlib.Omega.{arith}
-use lib.Dec.{ltb, eqb}
+use lib.Dec.{eqb}
 use borrow.Author.Needs.{needs}
 use Rattle.bitset.specs.Word.{member}
 use Rattle.searches.specs.Kind.{Search, searchOf}
@@ -55,8 +55,8 @@ returns-2 c =
 returns-3 : tie.Need-returns-3
 unfolding searchOf
 returns-3 c =
-    let s = c .before .before .before .before .before .before .before .before .before .before .before .before in
-    dfs-ahead (searchOf (s .args .kind .0)) (s .args .c) (s .args .b) (s .pre .0) (s .pre .1) (ap searchOf (c .before .before .before .before .if4 .taken))
+    let s = c .before .before .before .before .before .before .before .before .before .before in
+    dfs-ahead (searchOf (s .args .kind .0)) (s .args .c) (s .args .b) (s .pre .0) (s .pre .1) (ap searchOf (c .before .before .if4 .taken))
 
 returns-4 : tie.Need-returns-4
 returns-4 c =

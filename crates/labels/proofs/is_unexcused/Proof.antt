@@ -30,12 +30,16 @@ returns c =
 cast-result-2 : tie.Need-cast-result-2
 cast-result-2 c = search needs
 
+add-result : tie.Need-add-result
+add-result c = search needs
+
 returns-2 : tie.Need-returns-2
 unfolding searchOf
 returns-2 c =
-    let s = c .before .before .before .before .before .before in
+    let s = c .before .before .before .before .before in
     let x = s .args in
-    dfs-unexcused (searchOf (x .kind .0)) (x .c) (x .b) (s .pre .1) (s .pre .2) (x .position .0) (ap searchOf (c .before .before .if2 .taken))
+    ap (λ (p : ℕ). leb (x .b .largest) p) (add-one (x .position .0))
+    ∙ dfs-unexcused (searchOf (x .kind .0)) (x .c) (x .b) (s .pre .1) (s .pre .2) (x .position .0) (ap searchOf (c .before .if2 .taken))
 
 without-requires : tie.Need-without-requires
 without-requires c κs = search needs
@@ -109,6 +113,7 @@ is-unexcused-spec =
     cast-result
     returns
     cast-result-2
+    add-result
     returns-2
     without-requires
     smallest-requires

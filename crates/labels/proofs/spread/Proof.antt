@@ -1,33 +1,26 @@
 -- `labels::spread` meets its contract: what is left of the row makes of the labels, and of the running values beside them, what the row makes of
 -- them at the start. The measure is the word that is left.
 -- Assumes nothing.
-use Prim.Native.Nat.{ℕ, _<_}
-use mathlib.Core.Path.{refl, sym, subst}
+use Prim.Native.Nat.{ℕ, suc, _<_}
+use mathlib.Core.Path.{sym, subst}
 use mathlib.Core.Logic.{⊎-elim}
-use mathlib.Core.List.{List}
 use lib.Dec.{T}
-use lib.ListN.{getD, set}
 use native.Mathlib.Omega.{arith}
+use native.Mathlib.Numerals.{add-one}
 use borrow.Author.Needs.{needs}
-use Rattle.bitset.specs.Word.{member, inserted, removed}
+use Rattle.bitset.specs.Word.{member, inserted}
 use Rattle.bitset.proofs.Scan.{first-member, removed-less, taken-out}
 use Rattle.labels.specs.Words.{firstKept}
 use Rattle.labels.proofs.Spreading.{Placing, spread-start, spread-next, spread-past, spread-end}
 use Rattle.labels.proofs.spread.Statement.{statement}
 use Rattle.labels.proofs.spread.Tie as tie
-use Rattle.labels.proofs.spread.Reads as reads
-use Rattle.labels.proofs.spread.Lts as lts
-use Rattle.bitset.proofs.smallest.Reads as smallest-reads
-use Rattle.bitset.proofs.insert.Reads as insert-reads
-use Rattle.bitset.proofs.without_smallest.Reads as without-smallest-reads
-use Rattle.labels.proofs.first_kept.Reads as first-kept-reads
 
 abbrev Inv-loop : tie.InvT-loop
-Inv-loop labels₀ smallest₀ largest₀ row n p latest rest₀ labels smallest largest rest =
+Inv-loop labels₀ smallest₀ largest₀ row n p latest past rest₀ labels smallest largest rest =
     Placing p row n labels₀ smallest₀ largest₀ labels smallest largest rest
 
 abbrev μ-loop : tie.MeasureT-loop
-μ-loop labels₀ smallest₀ largest₀ row n p latest rest₀ labels smallest largest rest = rest
+μ-loop labels₀ smallest₀ largest₀ row n p latest past rest₀ labels smallest largest rest = rest
 
 -- the smallest number of what is left is in it
 found : (c : tie.After-smallest Inv-loop μ-loop)
@@ -43,13 +36,16 @@ inside c = (found c .0, c .before .before .before .pre)
 cast-latest : tie.Need-cast-latest Inv-loop μ-loop
 cast-latest c = omega (arith, c .pre)
 
+add-past : tie.Need-add-past Inv-loop μ-loop
+add-past c = omega (arith, c .pre)
+
 loop-holds : tie.Need-loop-holds Inv-loop μ-loop
 loop-holds c =
     let a = c .args in
     let word = c .fits .row .fits in (
       spread-start (λ x. inserted x (a .position .0)) (a .row) (a .n) (a .labels .now) word,
       spread-start (λ x. firstKept (a .position .0) x) (a .row) (a .n) (a .smallest .now) word,
-      spread-start (λ x. a .position .0) (a .row) (a .n) (a .largest .now) word,
+      spread-start (λ x. suc (a .position .0)) (a .row) (a .n) (a .largest .now) word,
     )
 
 smallest-requires : tie.Need-smallest-requires Inv-loop μ-loop
@@ -105,11 +101,11 @@ loop-again c =
     (⊎-elim (λ x. (
       spread-next (λ y. inserted y p) (a .row) (a .n) (a .labels .now) (k .labels) (now .labels) (k .rest) (k .inv .0) v (found n .1) (x .0 .taken) (x .5) (x .4 .ensures),
       spread-next (λ y. firstKept p y) (a .row) (a .n) (a .smallest .now) (k .smallest) (now .smallest) (k .rest) (k .inv .1) v (found n .1) (x .0 .taken) (x .6) (x .2 .ensures),
-      spread-next (λ y. p) (a .row) (a .n) (a .largest .now) (k .largest) (now .largest) (k .rest) (k .inv .2) v (found n .1) (x .0 .taken) (x .7) refl,
+      spread-next (λ y. suc p) (a .row) (a .n) (a .largest .now) (k .largest) (now .largest) (k .rest) (k .inv .2) v (found n .1) (x .0 .taken) (x .7) (add-one p),
     )) (λ x. (
       spread-past (λ y. inserted y p) (a .row) (a .n) (a .labels .now) (k .labels) (now .labels) (k .rest) (k .inv .0) v (x .0 .left) (x .1),
       spread-past (λ y. firstKept p y) (a .row) (a .n) (a .smallest .now) (k .smallest) (now .smallest) (k .rest) (k .inv .1) v (x .0 .left) (x .2),
-      spread-past (λ y. p) (a .row) (a .n) (a .largest .now) (k .largest) (now .largest) (k .rest) (k .inv .2) v (x .0 .left) (x .3),
+      spread-past (λ y. suc p) (a .row) (a .n) (a .largest .now) (k .largest) (now .largest) (k .rest) (k .inv .2) v (x .0 .left) (x .3),
     )) (now .came))
 
 returns : tie.Need-returns Inv-loop μ-loop
@@ -124,7 +120,7 @@ returns c =
       spread-end (λ y. inserted y p) (a .row) (a .n) (a .labels .now) (k .labels) (over .0),
       (
         spread-end (λ y. firstKept p y) (a .row) (a .n) (a .smallest .now) (k .smallest) (over .1),
-        spread-end (λ y. p) (a .row) (a .n) (a .largest .now) (k .largest) (over .2),
+        spread-end (λ y. suc p) (a .row) (a .n) (a .largest .now) (k .largest) (over .2),
       ),
     )
 
@@ -135,6 +131,7 @@ spread-spec =
     Inv-loop
     μ-loop
     cast-latest
+    add-past
     loop-holds
     smallest-requires
     element-copy-out-first-kept

@@ -8,7 +8,7 @@ use borrow.Author.Needs.{needs}
 use Rattle.bitset.specs.Word.{member}
 use Rattle.searches.specs.Kind.{searchOf}
 use Rattle.searches.specs.Running.{smallestIn, largestIn}
-use Rattle.labels.specs.Words.{byteOf, countIn, profileOf}
+use Rattle.labels.specs.Words.{smallestByte, largestByte, countIn, profileOf}
 use Rattle.labels.specs.declared.profile.Profile.{Profile}
 use Rattle.labels.proofs.Profiles.{uncounted}
 use Rattle.labels.proofs.profile.profile_of.Statement.{statement}
@@ -40,7 +40,7 @@ tracked : (s : tie.Start) (count : ℕ)
     → let v = s .args .vertex .0 in
     let label = getD (s .args .labels .now) v 0 in
     profile label count (getD (s .args .smallest .now) v 0) (getD (s .args .largest .now) v 0)
-    ≡ profile label count (byteOf (smallestIn 64 (member label))) (byteOf (largestIn 64 (member label)))
+    ≡ profile label count (smallestByte (smallestIn 64 (member label))) (largestByte (largestIn 64 (member label)))
 tracked s count =
     let v = s .args .vertex .0 in
     let values = s .pre .1 .tracked v (s .pre .0) in
