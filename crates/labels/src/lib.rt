@@ -16,7 +16,7 @@ ghost use Rattle.searches.specs.Kind.{searchOf};
 ghost use Rattle.labels.specs.Words.{Consistent, profileOf, aheadIn, unexcusedIn, spreadTo, firstKept, smallestTo, largestTo, beatenIn};
 
 // Whether a vertex of profile `c` is ahead of one of profile `b`. MNS is tested first, then the kinds below LexBFS, then the others, so Generic
-// stands twice: with seven tests in a row the compiler does not make a loop for each search of a loop that calls this.
+// stands twice: out of a loop that calls this the compiler makes one for each of several kinds, and with seven tests in a row for fewer of them.
 pub fn is_ahead(kind: Kind, c: Profile, b: Profile) -> bool
     requires { ⌜ (c ≡ profileOf (searchOf (kind .0)) (c .label)) × (b ≡ profileOf (searchOf (kind .0)) (b .label)) ⌝ }
     ensures { λ r. ⌜ r ≡ aheadIn (searchOf (kind .0)) (c .label) (b .label) ⌝ }
