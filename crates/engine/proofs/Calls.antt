@@ -1,6 +1,6 @@
 -- The two public calls, from what their parts answer.
 --   valid-both-ways                   every link of a valid graph goes both ways
---   replayable                        an ordering can be replayed on empty labels
+--   replayable                        an ordering can be replayed on empty labels and without running values
 --   fault-there, fault-judged         where the replay stops there is a violation, and the first one is judge's verdict
 --   stopped-fails, ended-passes, along-ended, whole-filled, filled-carried   what extend answers and leaves
 --   moment-refused, moment-stopped, moment-ended   what after hands back
@@ -114,8 +114,8 @@ module _ (rows w : List ℕ) (k : ℕ) (x : Judgeable rows w k) where
         long = a .long;
         ordering = a .ordering;
         labelled = at-labels ∙ ap (λ (j : ℕ). labelsAfter rows w j) whole ∙ a .labelled;
-        firsts = at-smallest ∙ ap (λ (j : ℕ). smallestAfter rows w j) whole ∙ a .firsts;
-        lasts = at-largest ∙ ap (λ (j : ℕ). largestAfter rows w j) whole ∙ a .lasts;
+        smallest-after = at-smallest ∙ ap (λ (j : ℕ). smallestAfter rows w j) whole ∙ a .smallest-after;
+        largest-after = at-largest ∙ ap (λ (j : ℕ). largestAfter rows w j) whole ∙ a .largest-after;
         set = at-placed ∙ ap (λ (j : ℕ). placedAfter w j) whole ∙ a .set;
         unplaced = at-free ∙ ap (λ (j : ℕ). freeAfter (length rows) w j) whole ∙ a .unplaced;
       }

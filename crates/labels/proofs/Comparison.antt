@@ -1,6 +1,7 @@
 -- The comparison of two labels that are kept as words, search by search, and the test for an excuse.
 --   empty-word                              a word has no member exactly when it is 0
---   bfs-words, lexBfs-words, .., generic-words   what the code computes is what aheadIn says; DFS and MCS compare no words
+--   lexBfs-words, lexDfs-words, mns-words, generic-words   what the code computes is what aheadIn says
+--   bfs-words                               BFS by the first positions, which Extremes takes from the running values; DFS is there, MCS in Profiles
 --   unexcused-*                             likewise for unexcusedIn
 --   of-kind, searchOf-other, searchOf-mns   from a kind byte to its search
 -- Assumes nothing.

@@ -11,13 +11,13 @@ use mathlib.Core.List.{List}
 use Prim.Native.Nat.{ℕ, _<_, _^_}
 use lib.Dec.{T}
 use lib.ListN.{getD}
-use Rattle.bitset.specs.Word.{member, inserted, united, common}
+use Rattle.bitset.specs.Word.{member, united, common}
 use Rattle.bitset.proofs.Tests.{and-in, and-out, or-inl, or-inr, decided, same-test}
 use Rattle.bitset.proofs.Below.{any-same}
 use Rattle.bitset.proofs.Word.{member-united, member-common, common-word, empty-back}
 use Rattle.searches.specs.Kind.{Search}
 use Rattle.searches.proofs.Reason.{outranks→reason}
-use Rattle.labels.specs.Words.{aheadIn, spreadTo, beatenIn, Covers}
+use Rattle.labels.specs.Words.{aheadIn, labelWith, spreadTo, beatenIn, Covers}
 use Rattle.labels.proofs.Spreading.{spread-outside}
 
 module _ (free reached : ℕ) {front : ℕ} (e : front ≡ common free reached) where
@@ -61,7 +61,7 @@ module _ (s : Search) (labels : List ℕ) (reached : ℕ) (covers : Covers reach
 pub covers-spread : (labels : List ℕ) (reached row p n : ℕ) {labels′ : List ℕ} {reached′ : ℕ} → Covers reached labels
     → labels′ ≡ spreadTo row p n labels → reached′ ≡ united reached row → Covers reached′ labels′
 covers-spread labels reached row p n {labels′} {reached′} covers at-labels at-reached v l out =
-    ap (λ (ls : List ℕ). getD ls v 0) at-labels ∙ spread-outside (λ x. inserted x p) row labels n v (λ t. outside (or-inr (member reached v) (member row v) t))
+    ap (λ (ls : List ℕ). getD ls v 0) at-labels ∙ spread-outside (labelWith p) row labels n v (λ t. outside (or-inr (member reached v) (member row v) t))
     ∙ covers v l (λ t. outside (or-inl (member reached v) (member row v) t))
   where
     outside : T (member reached v || member row v) → ⊥

@@ -1,15 +1,15 @@
--- Changing what is kept of the numbers of a row, from the row's smallest number on. `put` is the change: a label gets a position, a running value
--- the position where that is to be kept.
+-- Changing what is kept of the numbers of a row, from the row's smallest number on. `put` is the change of one value: of a label, or of the byte of
+-- a running value.
 --   spread-above      what is kept from the bound up is as it was
 --   spread-none       an empty row changes nothing
 --   spread-outside    what is kept of a number that is not in the row stays
 --   spread-beyond     a number from the bound up may be taken out of the row
 --   spread-apart      what is kept of a number from the bound up may be written before or after
 --   spread-one        a number below the bound may be taken out of the row once it is changed
---   spread-length, spread-at   what is kept below the bound, number by number
+--   spread-at         what is kept of a number below the bound;   spread-length   of as many numbers as before
 --   Spreading put row n before kept rest   `rest` is what is left of `row`: it makes of `kept` what `row` makes of `before`
 --   spread-start, spread-next, spread-past, spread-end   the spreading begins, goes on below the bound and from it up, and ends
---   Placing p row n labels₀ smallest₀ largest₀ labels smallest largest rest   the three together: position p is spread
+--   SpreadingAll p row n labels₀ smallest₀ largest₀ labels smallest largest rest   labels and running values together: position p is spread
 -- Assumes nothing.
 use mathlib.Core.Path.{_≡_, refl, sym, ap, ap₂, _∙_, subst}
 use mathlib.Core.Bool.{Bool, cond}
@@ -20,11 +20,11 @@ use native.Mathlib.Omega.{arith}
 use lib.Dec.{T}
 use lib.ListN.{length, getD, set, length-set}
 use lib.Seq.{getD-set-same, getD-set-other, set-getD, set-comm}
-use Rattle.bitset.specs.Word.{member, inserted, removed}
+use Rattle.bitset.specs.Word.{member, removed}
 use Rattle.bitset.proofs.Tests.{cond-yes, cond-no, below-suc, three-ways}
 use Rattle.bitset.proofs.Scan.{removed-in, removed-other}
 use Rattle.bitset.proofs.Word as word
-use Rattle.labels.specs.Words.{changedBy, spreadBy, firstKept}
+use Rattle.labels.specs.Words.{labelWith, smallestWith, largestWith, changedBy, spreadBy}
 
 module _ (put : ℕ → ℕ) where
   pub spread-above : (row : ℕ) (kept : List ℕ) (i v : ℕ) → i ≤ v → getD (spreadBy put row i kept) v 0 ≡ getD kept v 0
@@ -157,7 +157,7 @@ module _ (put : ℕ → ℕ) where
     spread-end kept r = sym (spread-none n kept) ∙ r .left
 
 -- the labels and the running values beside them, while position p is put into those of a row
-abbrev pub Placing : ℕ → ℕ → ℕ → List ℕ → List ℕ → List ℕ → List ℕ → List ℕ → List ℕ → ℕ → Type 0
-Placing p row n labels₀ smallest₀ largest₀ labels smallest largest rest =
-    Spreading (λ x. inserted x p) row n labels₀ labels rest × Spreading (λ x. firstKept p x) row n smallest₀ smallest rest
-    × Spreading (λ x. suc p) row n largest₀ largest rest
+abbrev pub SpreadingAll : ℕ → ℕ → ℕ → List ℕ → List ℕ → List ℕ → List ℕ → List ℕ → List ℕ → ℕ → Type 0
+SpreadingAll p row n labels₀ smallest₀ largest₀ labels smallest largest rest =
+    Spreading (labelWith p) row n labels₀ labels rest × Spreading (smallestWith p) row n smallest₀ smallest rest
+    × Spreading (largestWith p) row n largest₀ largest rest

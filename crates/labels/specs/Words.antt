@@ -10,13 +10,13 @@
 --   profileOf s label             what a comparison looks at, of a vertex with this label
 --   aheadIn s c b                 label c is ahead of label b
 --   unexcusedIn s i c b           nothing in b's label, nor its size, excuses position i against c's
+--   labelWith p x                 the label x, with p put in
+--   smallestWith, largestWith p x   the byte x of a smallest or largest position, once p is put into the label
 --   changedBy put row v x         what is kept of v, changed by `put` where v is in row
 --   spreadBy put row i kept       what is kept of the vertices, changed by `put` for those below i that are in row
 --   joinedIn row p v label        v's label, with p put in where v is in row
 --   spreadTo row p i labels       the labels, with p put into those of the vertices below i that are in row
---   firstKept p x                 the smallest position x, or p where there is none
---   smallestTo, largestTo row p i kept   the running values of the vertices below i that are in row, with p put in: the smallest is p where there
---                                 was none, the largest is p
+--   smallestTo, largestTo row p i kept   the running values as bytes, with p put into those of the vertices below i that are in row
 --   beatenIn s labels free mine   a free vertex has a label ahead of `mine`
 --   openIn s labels free v        v is free and not beaten
 --   chosenIn s labels free t      of the open vertices, the one that stands last in t
@@ -84,6 +84,15 @@ aheadIn s c b = outranks s 64 (member c) (member b)
 unfoldable pub unexcusedIn : Search → ℕ → ℕ → ℕ → Bool
 unexcusedIn s i c b = meets (condition s i) 64 (member c) (member b)
 
+abbrev pub labelWith : ℕ → ℕ → ℕ
+labelWith p x = inserted x p
+
+unfoldable pub smallestWith : ℕ → ℕ → ℕ
+smallestWith p x = cond (eqb x 64) p x
+
+abbrev pub largestWith : ℕ → ℕ → ℕ
+largestWith p x = suc p
+
 unfoldable pub changedBy : (ℕ → ℕ) → ℕ → ℕ → ℕ → ℕ
 changedBy put row v x = cond (member row v) (put x) x
 
@@ -92,19 +101,16 @@ spreadBy put row zero kept = kept
 spreadBy put row (suc i) kept = let rest = spreadBy put row i kept in set rest i (changedBy put row i (getD rest i 0))
 
 abbrev pub joinedIn : ℕ → ℕ → ℕ → ℕ → ℕ
-joinedIn row p v label = changedBy (λ x. inserted x p) row v label
+joinedIn row p v label = changedBy (labelWith p) row v label
 
 abbrev pub spreadTo : ℕ → ℕ → ℕ → List ℕ → List ℕ
-spreadTo row p i labels = spreadBy (λ x. inserted x p) row i labels
-
-unfoldable pub firstKept : ℕ → ℕ → ℕ
-firstKept p x = cond (eqb x 64) p x
+spreadTo row p i labels = spreadBy (labelWith p) row i labels
 
 abbrev pub smallestTo : ℕ → ℕ → ℕ → List ℕ → List ℕ
-smallestTo row p i smallest = spreadBy (λ x. firstKept p x) row i smallest
+smallestTo row p i smallest = spreadBy (smallestWith p) row i smallest
 
 abbrev pub largestTo : ℕ → ℕ → ℕ → List ℕ → List ℕ
-largestTo row p i largest = spreadBy (λ x. suc p) row i largest
+largestTo row p i largest = spreadBy (largestWith p) row i largest
 
 module _ (s : Search) where
   unfoldable pub beatenIn : List ℕ → ℕ → ℕ → Bool

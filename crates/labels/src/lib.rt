@@ -13,10 +13,10 @@ use searches::Vertex;
 ghost use mathlib.Core.Path.{_≡_};
 ghost use Prim.Native.Nat.{_<_};
 ghost use Rattle.searches.specs.Kind.{searchOf};
-ghost use Rattle.labels.specs.Words.{Consistent, profileOf, aheadIn, unexcusedIn, spreadTo, firstKept, smallestTo, largestTo, beatenIn};
+ghost use Rattle.labels.specs.Words.{Consistent, profileOf, aheadIn, unexcusedIn, spreadTo, smallestWith, smallestTo, largestTo, beatenIn};
 
 // Whether a vertex of profile `c` is ahead of one of profile `b`. MNS is tested first, then the kinds below LexBFS, then the others, so Generic
-// stands twice: out of a loop that calls this the compiler makes one for each of several kinds, and with seven tests in a row for fewer of them.
+// stands twice: the compiler splits a loop that calls this into one for each of several kinds, and into fewer where all seven tests stand in a row.
 pub fn is_ahead(kind: Kind, c: Profile, b: Profile) -> bool
     requires { ⌜ (c ≡ profileOf (searchOf (kind .0)) (c .label)) × (b ≡ profileOf (searchOf (kind .0)) (b .label)) ⌝ }
     ensures { λ r. ⌜ r ≡ aheadIn (searchOf (kind .0)) (c .label) (b .label) ⌝ }
@@ -74,11 +74,11 @@ pub fn is_unexcused(kind: Kind, position: Position, c: Profile, b: Profile) -> b
     b.label == 0
 }
 
-// A vertex's smallest position once `position` is in its label: the one that it had, or where it had none `position`.
-fn first_kept(kept: u8, position: u8) -> u8
-    ensures { λ r. ⌜ r ≡ firstKept position kept ⌝ }
+// A vertex's smallest position once `latest` is put into its label: the one that it had, or where it had none `latest`.
+fn smallest_with(latest: u8, kept: u8) -> u8
+    ensures { λ r. ⌜ r ≡ smallestWith latest kept ⌝ }
 {
-    if kept == 64 { position } else { kept }
+    if kept == 64 { latest } else { kept }
 }
 
 // Puts `position` into the labels of the vertices below `n` that `row` leads to, and into their running values. Positions are put in ascending
@@ -103,7 +103,7 @@ pub fn spread(
     while rest != 0 {
         let v = bitset::smallest(rest);
         if v < n {
-            let first = first_kept(smallest[v], latest);
+            let first = smallest_with(latest, smallest[v]);
             labels[v] = bitset::insert(labels[v], p);
             smallest[v] = first;
             largest[v] = past;

@@ -41,7 +41,7 @@ pub fn profile_of(
     let v = vertex.0 as usize;
     let label = labels[v];
     let first = smallest[v];
-    let last = largest[v];
+    let past = largest[v];
     let counted = if kind.0 == Kind::MCS.0 {
         count(rows, placed, vertex)
     } else {
@@ -51,6 +51,6 @@ pub fn profile_of(
         label,
         count: counted,
         smallest: first,
-        largest: last,
+        largest: past,
     }
 }

@@ -8,7 +8,7 @@
 -- Assumes nothing.
 use mathlib.Core.Path.{_≡_, sym, ap, ap₂, _∙_, subst}
 use mathlib.Core.Bool.{Bool, true, false, cond, not, _||_}
-use mathlib.Core.Logic.{_⊎_, inl, inr}
+use mathlib.Core.Logic.{_⊎_, inl, inr, _↔_}
 use mathlib.Core.List.{List}
 use mathlib.Core.Option.{Option, none, some}
 use Prim.Native.Nat.{ℕ, zero, suc, _<_, _≤_}
@@ -52,7 +52,7 @@ nothing-below x = omega (arith, x .below)
 
 -- a value that is none where a label is empty, and a position where it is not
 none-exactly : (k : ℕ) (f : ℕ → Bool) (x : ℕ) {kept : Option ℕ} → kept ≡ cond (empty k f) none (some x)
-    → (kept ≡ none → T (empty k f)) × (T (empty k f) → kept ≡ none)
+    → (kept ≡ none) ↔ T (empty k f)
 none-exactly k f x {kept} e = (λ gone. go (decided (empty k f)) (sym e ∙ gone), λ t. e ∙ cond-yes (empty k f) none (some x) t)
   where
     vacant : Option ℕ → Bool
@@ -91,7 +91,7 @@ module _ (arc : ℕ → ℕ → Bool) (w : List ℕ) (v : ℕ) where
 
   -- ---- what they are after each placing
 
-  -- a label that does not grow is empty if it was
+  -- a label that does not grow is empty exactly if it was
   same-some : (k : ℕ) → (T (label arc w v k) → ⊥) → anyBelow (suc k) (label arc w v) ≡ anyBelow k (label arc w v)
   unfolding anyBelow
   same-some k out = ap (λ (b : Bool). b || anyBelow k (label arc w v)) (is-false (label arc w v k) out)
@@ -147,12 +147,10 @@ module _ (arc : ℕ → ℕ → Bool) (w : List ℕ) (v : ℕ) where
           ∙ ap₂ (λ (b : Bool) (x : ℕ). cond (not b) none (some x)) (sym (same-some k same)) (sym (cond-no (f k) k (lastBelow k f) same))
 
   -- there is none exactly when the label is empty
-  pub smallest-none : (k : ℕ)
-      → (runningSmallest arc w v k ≡ none → T (empty k (label arc w v))) × (T (empty k (label arc w v)) → runningSmallest arc w v k ≡ none)
+  pub smallest-none : (k : ℕ) → (runningSmallest arc w v k ≡ none) ↔ T (empty k (label arc w v))
   unfolding smallestIn
   smallest-none k = none-exactly k (label arc w v) (firstBelow k (label arc w v)) (smallest-kept k)
 
-  pub largest-none : (k : ℕ)
-      → (runningLargest arc w v k ≡ none → T (empty k (label arc w v))) × (T (empty k (label arc w v)) → runningLargest arc w v k ≡ none)
+  pub largest-none : (k : ℕ) → (runningLargest arc w v k ≡ none) ↔ T (empty k (label arc w v))
   unfolding largestIn
   largest-none k = none-exactly k (label arc w v) (lastBelow k (label arc w v)) (largest-kept k)

@@ -25,7 +25,7 @@ use Rattle.searches.specs.CarryOn.{choice}
 use Rattle.searches.proofs.Ordering.{Agree, agree-sym, agree-fewer, take-agree, placed-in, ordering-agree, length-grown, grown-agree, grown-last}
 use Rattle.searches.proofs.Run.{offered-out}
 use Rattle.searches.proofs.CarryOn.{chosen-offered}
-use Rattle.labels.specs.Words.{Consistent, spreadBy, spreadTo, firstKept, smallestTo, largestTo, openIn, chosenIn}
+use Rattle.labels.specs.Words.{Consistent, labelWith, smallestWith, largestWith, spreadBy, spreadTo, smallestTo, largestTo, openIn, chosenIn}
 use Rattle.steps.specs.Steps.{keptAfter, labelsAfter, smallestAfter, largestAfter, freeAfter, placedAfter, BothWays, Along}
 use Rattle.steps.proofs.Representation.{open-offered}
 use Rattle.steps.proofs.Tracking.{consistent-after}
@@ -40,7 +40,7 @@ kept-agree put start rows w w′ (suc j) a =
     (kept-agree put start rows w w′ j (agree-fewer j (suc j) w w′ (omega arith) a))
 
 pub labels-agree : (rows w w′ : List ℕ) (j : ℕ) → Agree j w w′ → labelsAfter rows w j ≡ labelsAfter rows w′ j
-labels-agree rows w w′ j a = kept-agree (λ q x. inserted x q) 0 rows w w′ j a
+labels-agree rows w w′ j a = kept-agree labelWith 0 rows w w′ j a
 
 pub free-agree : (n : ℕ) (w w′ : List ℕ) (j : ℕ) → Agree j w w′ → freeAfter n w j ≡ freeAfter n w′ j
 unfolding freeAfter
@@ -64,7 +64,7 @@ module _ (w : List ℕ) (v : ℕ) where
 
   pub labels-grown : (rows : List ℕ)
       → labelsAfter rows (w ++ v ∷ []) (suc (length w)) ≡ spreadTo (getD rows v 0) (length w) (length rows) (labelsAfter rows w (length w))
-  labels-grown rows = kept-grown (λ q x. inserted x q) 0 rows
+  labels-grown rows = kept-grown labelWith 0 rows
 
   pub free-grown : (n : ℕ) → freeAfter n (w ++ v ∷ []) (suc (length w)) ≡ removed (freeAfter n w (length w)) v
   unfolding freeAfter
@@ -121,9 +121,9 @@ module _ (s : Search) (rows : List ℕ) (small : length rows ≤ 64) where
         walk = w ++ v ∷ [];
         long = length-grown w v;
         ordering = ordering-grown w v o (fresh .0) (fresh .1);
-        labelled = grown (λ q x. inserted x q) 0 at-labels (a .labelled);
-        firsts = grown (λ q x. firstKept q x) 64 at-smallest (a .firsts);
-        lasts = grown (λ q x. suc q) 0 at-largest (a .lasts);
+        labelled = grown labelWith 0 at-labels (a .labelled);
+        smallest-after = grown smallestWith 64 at-smallest (a .smallest-after);
+        largest-after = grown largestWith 0 at-largest (a .largest-after);
         set = at-set ∙ ap (λ (x : ℕ). inserted x v) (after (λ m. placedAfter w m) (a .set)) ∙ sym (set-grown w v);
         unplaced = at-free ∙ ap (λ (x : ℕ). removed x v) (after (λ m. freeAfter n w m) (a .unplaced)) ∙ sym (free-grown w v n);
       })
@@ -159,8 +159,8 @@ module _ (rows : List ℕ) where
     long = length-take-le k w (o .long);
     ordering = ordering-agree (length rows) (take k w) (omega (arith, length-take-le k w (o .long))) same o;
     labelled = labels-agree rows w (take k w) k same;
-    firsts = kept-agree (λ q x. firstKept q x) 64 rows w (take k w) k same;
-    lasts = kept-agree (λ q x. suc q) 0 rows w (take k w) k same;
+    smallest-after = kept-agree smallestWith 64 rows w (take k w) k same;
+    largest-after = kept-agree largestWith 0 rows w (take k w) k same;
     set = set-agree w (take k w) k same;
     unplaced = free-agree (length rows) w (take k w) k same;
   }
@@ -171,4 +171,4 @@ module _ (rows : List ℕ) where
   pub along-consistent : length rows ≤ 64 → BothWays rows → {p set free : ℕ} {labels smallest largest : List ℕ} → Along rows p labels smallest largest set free
       → Consistent rows labels smallest largest set
   along-consistent small both-ways {p} a =
-      consistent-after rows (a .walk) p small (a .ordering) both-ways p (omega arith) (a .labelled) (a .firsts) (a .lasts) (a .set)
+      consistent-after rows (a .walk) p small (a .ordering) both-ways p (omega arith) (a .labelled) (a .smallest-after) (a .largest-after) (a .set)

@@ -6,7 +6,7 @@
 use mathlib.Core.Path.{_≡_, refl, sym, ap, ap₂, _∙_, subst}
 use mathlib.Core.Logic.{_⊎_, inl, inr}
 use mathlib.Core.List.{List}
-use Prim.Native.Nat.{ℕ, suc, _+_, _≤_, _<_}
+use Prim.Native.Nat.{ℕ, _+_, _≤_, _<_}
 use native.Mathlib.Omega.{arith}
 use native.Mathlib.Numerals.{add-one}
 use lib.Dec.{T}
@@ -17,7 +17,7 @@ use Rattle.bitset.proofs.Tests.{below-suc}
 use Rattle.bitset.proofs.Below.{first-unique}
 use Rattle.searches.specs.Kind.{Search}
 use Rattle.searches.specs.Ordering.{at}
-use Rattle.labels.specs.Words.{Consistent, spreadBy, spreadTo, firstKept, smallestTo, largestTo, beatenIn}
+use Rattle.labels.specs.Words.{Consistent, labelWith, smallestWith, largestWith, spreadBy, spreadTo, smallestTo, largestTo, beatenIn}
 use Rattle.labels.proofs.Reached.{beaten-reached}
 use Rattle.steps.specs.Steps.{keptAfter, labelsAfter, smallestAfter, largestAfter, freeAfter, reachedAfter, placedAfter, stopsAt, Replayable}
 use Rattle.steps.proofs.Representation.{reached-covers}
@@ -27,8 +27,8 @@ module _ (s : Search) (rows w : List ℕ) (k : ℕ) where
   pub record Replaying (labels smallest largest : List ℕ) (placed free reached j : ℕ) : Type 0 where
     pub upto : j ≤ k
     pub labelled : labels ≡ labelsAfter rows w j
-    pub firsts : smallest ≡ smallestAfter rows w j
-    pub lasts : largest ≡ largestAfter rows w j
+    pub smallest-after : smallest ≡ smallestAfter rows w j
+    pub largest-after : largest ≡ largestAfter rows w j
     pub set : placed ≡ placedAfter w j
     pub unplaced : free ≡ freeAfter (length rows) w j
     pub met : reached ≡ reachedAfter rows w j
@@ -40,8 +40,8 @@ module _ (s : Search) (rows w : List ℕ) (k : ℕ) where
   replay-start r e = record {
     upto = omega arith;
     labelled = r .empty;
-    firsts = r .no-smallest;
-    lasts = r .no-largest;
+    smallest-after = r .no-smallest;
+    largest-after = r .no-largest;
     set = refl;
     unplaced = e;
     met = refl;
@@ -51,8 +51,8 @@ module _ (s : Search) (rows w : List ℕ) (k : ℕ) where
   pub replay-consistent : {labels₀ smallest₀ largest₀ labels smallest largest : List ℕ} {placed free reached j : ℕ} → Replayable rows w k labels₀ smallest₀ largest₀
       → Replaying labels smallest largest placed free reached j → Consistent rows labels smallest largest placed
   replay-consistent {j = j} x r =
-      consistent-after rows w k (x .small) (record { long = x .long; vertices = x .vertices; distinct = x .distinct }) (x .both-ways) j (r .upto) (r .labelled) (r .firsts)
-      (r .lasts) (r .set)
+      consistent-after rows w k (x .small) (record { long = x .long; vertices = x .vertices; distinct = x .distinct }) (x .both-ways) j (r .upto) (r .labelled) (r .smallest-after)
+      (r .largest-after) (r .set)
 
   -- what the code asks of the vertex b at position j
   pub asked : {labels smallest largest : List ℕ} {placed free reached j b front : ℕ} → Replaying labels smallest largest placed free reached j → b ≡ at w j → front ≡ common free reached
@@ -72,9 +72,9 @@ module _ (s : Search) (rows w : List ℕ) (k : ℕ) where
   replay-next {labels} {smallest} {largest} {placed} {free} {reached} {j} {b} labels′ smallest′ largest′ placed′ free′ reached′ r l h go-on e e-smallest e-largest i f g =
       subst (λ (m : ℕ). Replaying labels′ smallest′ largest′ placed′ free′ reached′ m) (sym (add-one j)) (record {
         upto = l;
-        labelled = grown (λ x. inserted x j) e (r .labelled);
-        firsts = grown (λ x. firstKept j x) e-smallest (r .firsts);
-        lasts = grown (λ x. suc j) e-largest (r .lasts);
+        labelled = grown (labelWith j) e (r .labelled);
+        smallest-after = grown (smallestWith j) e-smallest (r .smallest-after);
+        largest-after = grown (largestWith j) e-largest (r .largest-after);
         set = i ∙ ap₂ (λ (x v : ℕ). inserted x v) (r .set) h;
         unplaced = f ∙ ap₂ (λ (x v : ℕ). removed x v) (r .unplaced) h;
         met = g ∙ ap₂ (λ (x v : ℕ). united x (getD rows v 0)) (r .met) h;

@@ -29,7 +29,7 @@ use Rattle.searches.specs.Run.{offered}
 use Rattle.searches.specs.Violation.{Condition, noneExcuses, counted, condition, meets}
 use Rattle.searches.proofs.Reason.{Reason, meets-in, meets-out, outranks→reason, reason→outranks}
 use Rattle.searches.proofs.Ordering.{ordering-fits}
-use Rattle.labels.specs.Words.{changedBy, aheadIn, joinedIn, beatenIn, openIn, Covers}
+use Rattle.labels.specs.Words.{aheadIn, labelWith, changedBy, joinedIn, beatenIn, openIn, Covers}
 use Rattle.labels.proofs.Spreading.{spread-above, spread-length, spread-at}
 use Rattle.labels.proofs.Reached.{covers-spread}
 use Rattle.steps.specs.Steps.{keptAfter, labelsAfter, freeAfter, reachedAfter}
@@ -179,12 +179,12 @@ module _ (rows w : List ℕ) (k : ℕ) (small : length rows ≤ 64) (o : IsOrder
       → member (getD (labelsAfter rows w j) v 0) p ≡ (ltb p j && label (arcs rows) w v p)
   unfolding label arcs
   label-members zero h v l p =
-      ap (λ (x : ℕ). member x p) (kept-start (λ q x. inserted x q) 0 rows w v (omega arith)) ∙ word.member-zero p
+      ap (λ (x : ℕ). member x p) (kept-start labelWith 0 rows w v (omega arith)) ∙ word.member-zero p
       ∙ ap (λ (b : Bool). b && label (arcs rows) w v p) (sym (leb·suc-zero p))
   label-members (suc j) h v l p =
       let row = getD rows (at w j) 0 in
       let labels = labelsAfter rows w j in
-      ap (λ (x : ℕ). member x p) (kept-next (λ q x. inserted x q) 0 rows w small j v l)
+      ap (λ (x : ℕ). member x p) (kept-next labelWith 0 rows w small j v l)
       ∙ member-joined row j v (getD labels v 0) (omega (arith, ordering-fits (length rows) o)) p
       ∙ ap (λ (b : Bool). (eqb j p && member row v) || b) (label-members j (omega arith) v l p) ∙ suc-split j p (label (arcs rows) w v)
 

@@ -20,7 +20,7 @@ use Rattle.bitset.proofs.Word as word
 use Rattle.searches.specs.Ordering.{arcs, at, placed, IsOrdering}
 use Rattle.searches.specs.Label.{label}
 use Rattle.searches.proofs.Ordering.{ordering-unplaced, ordering-fits}
-use Rattle.labels.specs.Words.{tally, Tallied, joinedIn}
+use Rattle.labels.specs.Words.{tally, Tallied, labelWith, joinedIn}
 use Rattle.steps.specs.Steps.{labelsAfter, placedAfter, BothWays}
 use Rattle.steps.proofs.Representation.{cut-below, kept-start, kept-next, kept-beyond, member-joined, label-members}
 
@@ -92,7 +92,7 @@ module _ (rows w : List ℕ) (k : ℕ) (small : length rows ≤ 64) (o : IsOrder
     unfolding placedAfter tally arcs
     tallied-after zero h v l =
         count-none 64 (member (common (getD rows v 0) 0)) (λ p _ t. word.empty-back refl p (and-out (member (getD rows v 0) p) (member 0 p) (subst (λ (x : Bool). T x) (word.member-common (getD rows v 0) 0 p) t) .1))
-        ∙ sym (count-none 64 (member (getD (labelsAfter rows w 0) v 0)) (λ p _. word.empty-back (kept-start (λ q x. inserted x q) 0 rows w v l) p))
+        ∙ sym (count-none 64 (member (getD (labelsAfter rows w 0) v 0)) (λ p _. word.empty-back (kept-start labelWith 0 rows w v l) p))
     tallied-after (suc j) h v l = go (tallied-after j (omega arith) v l) (below-or v (length rows))
       where
         u : ℕ
@@ -115,8 +115,8 @@ module _ (rows w : List ℕ) (k : ℕ) (small : length rows ≤ 64) (o : IsOrder
             let here = o .vertices j h in
             tally-more (getD rows v 0) (placedAfter w j) u (omega arith) fresh ∙ ap₂ (λ (b : Bool) (x : ℕ). cond b (suc x) x) (both-ways v u vertex here) same
             ∙ sym (label-more row j v (getD labels v 0) (omega (arith, ordering-fits (length rows) o)) (unused vertex))
-            ∙ sym (ap (λ (x : ℕ). countBelow 64 (member x)) (kept-next (λ q x. inserted x q) 0 rows w small j v vertex))
+            ∙ sym (ap (λ (x : ℕ). countBelow 64 (member x)) (kept-next labelWith 0 rows w small j v vertex))
         go same (inr beyond) =
             let none = List·getD-eq-default rows 0 beyond in
             none-counted (getD rows v 0) (placedAfter w (suc j)) none ∙ sym (none-counted (getD rows v 0) (placedAfter w j) none) ∙ same
-            ∙ ap (λ (x : ℕ). countBelow 64 (member x)) (kept-beyond (λ q x. inserted x q) 0 rows w j v l beyond ∙ sym (kept-beyond (λ q x. inserted x q) 0 rows w (suc j) v l beyond))
+            ∙ ap (λ (x : ℕ). countBelow 64 (member x)) (kept-beyond labelWith 0 rows w j v l beyond ∙ sym (kept-beyond labelWith 0 rows w (suc j) v l beyond))

@@ -4,8 +4,8 @@
 --   tracked-after                       after each vertex of an ordering they are the label's smallest and largest position
 --   consistent-after                    so what is kept beside the labels agrees with them, also the count in row AND placed mask
 -- Assumes nothing.
-use mathlib.Core.Path.{_≡_, refl, sym, ap, _∙_, subst}
-use mathlib.Core.Bool.{Bool, true, false, cond, _&&_}
+use mathlib.Core.Path.{_≡_, sym, ap, _∙_, subst}
+use mathlib.Core.Bool.{Bool, not, _&&_}
 use mathlib.Core.Logic.{_⊎_, inl, inr}
 use mathlib.Core.List.{List}
 use mathlib.Core.Option.{Option, some}
@@ -14,16 +14,16 @@ use native.Mathlib.Omega.{arith}
 use lib.Dec.{T, ltb, eqb, eqb→eq, not-T}
 use lib.ListN.{length, getD}
 use Rattle.bitset.specs.Below.{anyBelow, firstBelow, lastBelow}
-use Rattle.bitset.specs.Word.{member, inserted}
-use Rattle.bitset.proofs.Tests.{decided, cond-no, below-or}
+use Rattle.bitset.specs.Word.{member}
+use Rattle.bitset.proofs.Tests.{not-not, decided, cond-yes, cond-no, below-or}
 use Rattle.bitset.proofs.Below.{any-out, any-fewer, first, first-found, first-unique, last, last-unique}
 use Rattle.bitset.proofs.Word.{empty-back}
 use Rattle.searches.specs.Ordering.{arcs, at, IsOrdering}
 use Rattle.searches.specs.Label.{label, empty}
-use Rattle.searches.specs.Running.{smallestIn, largestIn, keepFirst, runningSmallest, runningLargest}
+use Rattle.searches.specs.Running.{smallestIn, largestIn, runningSmallest, runningLargest}
 use Rattle.searches.proofs.Ordering.{ordering-fits}
-use Rattle.searches.proofs.Running.{smallest-found, smallest-absent, largest-found, largest-absent, smallest-kept, largest-kept, smallest-none}
-use Rattle.labels.specs.Words.{smallestByte, largestByte, changedBy, firstKept, Tracked, Consistent}
+use Rattle.searches.proofs.Running.{smallest-found, smallest-absent, largest-found, largest-absent, unchanged-unless-grown, smallest-begins, largest-moves, smallest-stays, smallest-kept, largest-kept, smallest-none, largest-none}
+use Rattle.labels.specs.Words.{smallestByte, largestByte, Tracked, Consistent, labelWith, smallestWith, largestWith, changedBy}
 use Rattle.steps.specs.Steps.{labelsAfter, smallestAfter, largestAfter, placedAfter, BothWays}
 use Rattle.steps.proofs.Representation.{cut-same, cut-below, kept-start, kept-next, kept-beyond, label-members}
 use Rattle.steps.proofs.Tallying.{tallied-after}
@@ -75,45 +75,53 @@ module _ (rows w : List ℕ) (k : ℕ) (small : length rows ≤ 64) (o : IsOrder
   abbrev arc : ℕ → ℕ → Bool
   arc = arcs rows
 
-  -- the byte is kept as the running value is
-  kept-first : (v j : ℕ) → j ≤ 64 → firstKept j (smallestByte (runningSmallest arc w v j)) ≡ smallestByte (keepFirst (runningSmallest arc w v j) j)
-  unfolding firstKept smallestByte keepFirst empty
-  kept-first v j l = go (decided (anyBelow j (label arc w v)))
-    where
-      go : T (anyBelow j (label arc w v)) ⊎ (T (anyBelow j (label arc w v)) → ⊥)
-          → firstKept j (smallestByte (runningSmallest arc w v j)) ≡ smallestByte (keepFirst (runningSmallest arc w v j) j)
-      go (inl t) =
-          let q = firstBelow j (label arc w v) in
-          let e = smallest-kept arc w v j ∙ smallest-found j (label arc w v) t in
-          let h = first-found (any-out j (label arc w v) t) in
-          ap (λ (x : Option ℕ). firstKept j (smallestByte x)) e ∙ cond-no (eqb q 64) j q (λ u. omega (arith, eqb→eq q 64 u)) ∙ ap (λ (x : Option ℕ). smallestByte (keepFirst x j)) (sym e)
-      go (inr out) =
-          let e = smallest-none arc w v j .1 (not-T (anyBelow j (label arc w v)) out) in
-          ap (λ (x : Option ℕ). firstKept j (smallestByte x)) e ∙ ap (λ (x : Option ℕ). smallestByte (keepFirst x j)) (sym e)
-
-  -- a byte is chosen as the value is
-  byte-chosen : (byte : Option ℕ → ℕ) (b : Bool) (x y : Option ℕ) → cond b (byte x) (byte y) ≡ byte (cond b x y)
-  byte-chosen byte true x y = refl
-  byte-chosen byte false x y = refl
-
   pub smallest-running : (j : ℕ) → j ≤ k → (v : ℕ) → v < length rows → getD (smallestAfter rows w j) v 0 ≡ smallestByte (runningSmallest arc w v j)
-  unfolding runningSmallest changedBy label arcs smallestByte
-  smallest-running zero h v l = kept-start (λ p x. firstKept p x) 64 rows w v (omega arith)
+  unfolding changedBy smallestWith smallestByte label arcs empty anyBelow
+  smallest-running zero h v l = kept-start smallestWith 64 rows w v (omega arith) ∙ ap smallestByte (sym (smallest-none arc w v 0 .1 tt))
   smallest-running (suc j) h v l =
-      let kept = runningSmallest arc w v j in
-      let joins = member (getD rows (at w j) 0) v in
-      kept-next (λ p x. firstKept p x) 64 rows w small j v l
-      ∙ ap (λ (x : ℕ). cond joins (firstKept j x) x) (smallest-running j (omega arith) v l)
-      ∙ ap (λ (x : ℕ). cond joins x (smallestByte kept)) (kept-first v j (omega (arith, ordering-fits (length rows) o)))
-      ∙ byte-chosen smallestByte joins (keepFirst kept j) kept
+      kept-next smallestWith 64 rows w small j v l ∙ ap (changedBy (smallestWith j) row v) (smallest-running j (omega arith) v l) ∙ go (decided (label arc w v j))
+    where
+      row : ℕ
+      row = getD rows (at w j) 0
+
+      now : Option ℕ
+      now = runningSmallest arc w v j
+
+      grown : T (label arc w v j) → T (empty j (label arc w v)) ⊎ (T (empty j (label arc w v)) → ⊥)
+          → smallestWith j (smallestByte now) ≡ smallestByte (runningSmallest arc w v (suc j))
+      grown t (inl none-yet) =
+          let gone = smallest-none arc w v j .1 none-yet in
+          ap (λ (x : Option ℕ). smallestWith j (smallestByte x)) gone ∙ ap smallestByte (sym (smallest-begins arc w v j t gone))
+      grown t (inr not-empty) =
+          let q = firstBelow j (label arc w v) in
+          let some-there = not-not (anyBelow j (label arc w v)) (not-T (not (anyBelow j (label arc w v))) not-empty) in
+          let there = smallest-kept arc w v j ∙ smallest-found j (label arc w v) some-there in
+          let below = first-found (any-out j (label arc w v) some-there) in
+          ap (λ (x : Option ℕ). smallestWith j (smallestByte x)) there
+          ∙ cond-no (eqb q 64) j q (λ u. omega (arith, eqb→eq q 64 u, ordering-fits (length rows) o))
+          ∙ ap smallestByte (sym (smallest-stays arc w v j q there))
+
+      go : T (label arc w v j) ⊎ (T (label arc w v j) → ⊥)
+          → changedBy (smallestWith j) row v (smallestByte now) ≡ smallestByte (runningSmallest arc w v (suc j))
+      go (inl t) = cond-yes (member row v) (smallestWith j (smallestByte now)) (smallestByte now) t ∙ grown t (decided (empty j (label arc w v)))
+      go (inr same) =
+          cond-no (member row v) (smallestWith j (smallestByte now)) (smallestByte now) same ∙ ap smallestByte (sym (unchanged-unless-grown arc w v j same .0))
 
   pub largest-running : (j : ℕ) → j ≤ k → (v : ℕ) → v < length rows → getD (largestAfter rows w j) v 0 ≡ largestByte (runningLargest arc w v j)
-  unfolding runningLargest changedBy label arcs largestByte
-  largest-running zero h v l = kept-start (λ p x. suc p) 0 rows w v (omega arith)
+  unfolding changedBy largestByte label arcs empty anyBelow
+  largest-running zero h v l = kept-start largestWith 0 rows w v (omega arith) ∙ ap largestByte (sym (largest-none arc w v 0 .1 tt))
   largest-running (suc j) h v l =
-      let joins = member (getD rows (at w j) 0) v in
-      kept-next (λ p x. suc p) 0 rows w small j v l ∙ ap (λ (x : ℕ). cond joins (suc j) x) (largest-running j (omega arith) v l)
-      ∙ byte-chosen largestByte joins (some j) (runningLargest arc w v j)
+      kept-next largestWith 0 rows w small j v l ∙ ap (changedBy (largestWith j) row v) (largest-running j (omega arith) v l) ∙ go (decided (label arc w v j))
+    where
+      row : ℕ
+      row = getD rows (at w j) 0
+
+      now : ℕ
+      now = largestByte (runningLargest arc w v j)
+
+      go : T (label arc w v j) ⊎ (T (label arc w v j) → ⊥) → changedBy (largestWith j) row v now ≡ largestByte (runningLargest arc w v (suc j))
+      go (inl t) = cond-yes (member row v) (suc j) now t ∙ ap largestByte (sym (largest-moves arc w v j t))
+      go (inr same) = cond-no (member row v) (suc j) now same ∙ ap largestByte (sym (unchanged-unless-grown arc w v j same .1))
 
   pub tracked-after : (j : ℕ) → j ≤ k → Tracked (labelsAfter rows w j) (smallestAfter rows w j) (largestAfter rows w j)
   unfolding smallestByte largestByte
@@ -133,10 +141,10 @@ module _ (rows w : List ℕ) (k : ℕ) (small : length rows ≤ 64) (o : IsOrder
       go (inr beyond) =
           let none-there : T (anyBelow 64 (member word)) → ⊥ = λ t.
           let x = any-out 64 (member word) t in
-          empty-back (kept-beyond (λ p x. inserted x p) 0 rows w j v l beyond) (x .at) (x .holds)
+          empty-back (kept-beyond labelWith 0 rows w j v l beyond) (x .at) (x .holds)
           in (
-            kept-beyond (λ p x. firstKept p x) 64 rows w j v l beyond ∙ ap smallestByte (sym (smallest-absent 64 (member word) none-there)),
-            kept-beyond (λ p x. suc p) 0 rows w j v l beyond ∙ ap largestByte (sym (largest-absent 64 (member word) none-there)),
+            kept-beyond smallestWith 64 rows w j v l beyond ∙ ap smallestByte (sym (smallest-absent 64 (member word) none-there)),
+            kept-beyond largestWith 0 rows w j v l beyond ∙ ap largestByte (sym (largest-absent 64 (member word) none-there)),
           )
 
   pub consistent-after : BothWays rows → (j : ℕ) → j ≤ k → {labels smallest largest : List ℕ} {placed : ℕ} → labels ≡ labelsAfter rows w j

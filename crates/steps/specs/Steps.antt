@@ -1,6 +1,6 @@
 -- An ordering placed step by step on labels that are kept as words, and on the running values beside them.
---   keptAfter put start rows w j  what is kept of the vertices after the first j vertices of w: `start` at first, changed by `put p` where the one
---                                 at position p leads to
+--   keptAfter put start rows w j  what is kept of the vertices after the first j vertices of w: `start` at first, then changed by `put p` for those
+--                                 that the vertex at position p leads to
 --   labelsAfter rows w j          the labels after the first j vertices of w
 --   smallestAfter, largestAfter   the running values after the first j vertices of w, as bytes                  [02, K3: smallest, largest place]
 --   freeAfter n w j               the vertices below n that are not among the first j of w
@@ -21,9 +21,9 @@
 --   Searchable rows w k labels smallest largest placed free j   the first k entries of w are vertices, j is one of these positions, free the
 --                                 vertices that are unplaced at its turn, and what is kept beside the labels agrees with them
 --   Positioned w k j i            w has k positions, j is one of them, and i is the number of a bit of a label
---   Along rows p labels smallest largest placed free   the words are those after the p vertices of an ordering
+--   Along rows p labels smallest largest placed free   words and bytes are those after the p vertices of an ordering
 --   Fillable rows t tail k labels smallest largest placed free reached   t is a tie-break, tail has room for the vertices from position k on,
---                                 the words are those after k vertices, and nobody outside `reached` has a label
+--                                 words and bytes are those after k vertices, and nobody outside `reached` has a label
 use Prim.Native.Nat.{ℕ, zero, suc, _+_, _-_, _≤_, _<_}
 use mathlib.Core.Path.{_≡_}
 use mathlib.Core.Bool.{Bool, cond, not, _&&_}
@@ -35,20 +35,20 @@ use Rattle.bitset.specs.Word.{member, inserted, removed, united, common, fullBe
 use Rattle.searches.specs.Kind.{Search}
 use Rattle.searches.specs.Ordering.{arcs, at, IsOrdering, IsFullOrdering}
 use Rattle.searches.specs.Violation.{third, Verdict, fails}
-use Rattle.labels.specs.Words.{Consistent, unexcusedIn, spreadBy, spreadTo, firstKept, beatenIn, chosenIn, Covers}
+use Rattle.labels.specs.Words.{Consistent, unexcusedIn, labelWith, smallestWith, largestWith, spreadBy, spreadTo, beatenIn, chosenIn, Covers}
 
 unfoldable pub keptAfter : (ℕ → ℕ → ℕ) → ℕ → List ℕ → List ℕ → ℕ → List ℕ
 keptAfter put start rows w zero = replicate 64 start
 keptAfter put start rows w (suc j) = spreadBy (put j) (getD rows (at w j) 0) (length rows) (keptAfter put start rows w j)
 
 abbrev pub labelsAfter : List ℕ → List ℕ → ℕ → List ℕ
-labelsAfter rows w j = keptAfter (λ p x. inserted x p) 0 rows w j
+labelsAfter rows w j = keptAfter labelWith 0 rows w j
 
 abbrev pub smallestAfter : List ℕ → List ℕ → ℕ → List ℕ
-smallestAfter rows w j = keptAfter (λ p x. firstKept p x) 64 rows w j
+smallestAfter rows w j = keptAfter smallestWith 64 rows w j
 
 abbrev pub largestAfter : List ℕ → List ℕ → ℕ → List ℕ
-largestAfter rows w j = keptAfter (λ p x. suc p) 0 rows w j
+largestAfter rows w j = keptAfter largestWith 0 rows w j
 
 unfoldable pub freeAfter : ℕ → List ℕ → ℕ → ℕ
 freeAfter n w zero = fullBelow n
@@ -140,8 +140,8 @@ pub record Along (rows : List ℕ) (p : ℕ) (labels smallest largest : List ℕ
   pub long : length walk ≡ p
   pub ordering : IsOrdering (length rows) walk p
   pub labelled : labels ≡ labelsAfter rows walk p
-  pub firsts : smallest ≡ smallestAfter rows walk p
-  pub lasts : largest ≡ largestAfter rows walk p
+  pub smallest-after : smallest ≡ smallestAfter rows walk p
+  pub largest-after : largest ≡ largestAfter rows walk p
   pub set : placed ≡ placedAfter walk p
   pub unplaced : free ≡ freeAfter (length rows) walk p
 

@@ -1,5 +1,5 @@
-// An ordering placed step by step, on labels that are kept as words: placed again up to the first vertex that was not offered, the first
-// violation at that vertex, and the filling step of carry-on.
+// An ordering placed step by step, on labels that are kept as words and the running values beside them: placed again up to the first vertex that
+// was not offered, the first violation at that vertex, and the filling step of carry-on.
 pub mod fill;
 pub mod lookup;
 pub mod replay;

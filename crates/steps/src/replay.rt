@@ -18,8 +18,8 @@ pub struct Placed {
     pub reached: u64,
 }
 
-// Places the first `k` vertices of `ordering` up to the first that was not offered. `labels`, `smallest` and `largest` come in empty and go out
-// with the labels and the running values of that moment.
+// Places the first `k` vertices of `ordering` up to the first that was not offered. `labels` comes in empty, `smallest` and `largest` without a
+// position (64 and 0); they go out with the labels and the running values of that moment.
 pub fn replay(
     kind: Kind,
     rows: &[u64],

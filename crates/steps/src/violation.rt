@@ -220,7 +220,8 @@ fn first_first(
     j
 }
 
-// The first violation with the vertex at position `j`, which has one. `labels`, `placed` and `free` are those of its turn.
+// The first violation with the vertex at position `j`, which has one. `labels`, `smallest`, `largest`, `placed` and
+// `free` are those of its turn.
 pub fn first_violation(
     kind: Kind,
     rows: &[u64],

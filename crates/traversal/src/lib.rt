@@ -87,6 +87,7 @@ impl Traversal {
                 outcome: Outcome::Refused(Refusal::MalformedTraversal),
             };
         }
+        // copied, since the prover covers no two fields of one struct that are borrowed at once
         let labels = moment.labels;
         let smallest = moment.smallest;
         let largest = moment.largest;

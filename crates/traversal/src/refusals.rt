@@ -36,6 +36,7 @@ pub fn place_refusal(
     if !bitset::contains(moment.free, v) {
         return Outcome::Refused(Refusal::AlreadyPlaced);
     }
+    // copied, since the prover covers no two fields of one struct that are borrowed at once
     let labels = moment.labels;
     let smallest = moment.smallest;
     let largest = moment.largest;

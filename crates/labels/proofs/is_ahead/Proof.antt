@@ -1,4 +1,4 @@
--- `labels::is_ahead` meets its contract: each search by its law on words.
+-- `labels::is_ahead` meets its contract: each search by its law.
 -- Assumes nothing.
 use mathlib.Core.Path.{_≡_, sym, ap, ap₂, _∙_}
 use mathlib.Core.Bool.{Bool, not, _&&_}

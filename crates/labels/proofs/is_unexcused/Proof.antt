@@ -1,4 +1,4 @@
--- `labels::is_unexcused` meets its contract: each search by its law on words.
+-- `labels::is_unexcused` meets its contract: each search by its law.
 -- Assumes nothing.
 use mathlib.Core.Path.{sym, ap, _∙_}
 use mathlib.Core.Bool.{not}

@@ -1,23 +1,23 @@
 -- `labels::spread` meets its contract: what is left of the row makes of the labels, and of the running values beside them, what the row makes of
 -- them at the start. The measure is the word that is left.
 -- Assumes nothing.
-use Prim.Native.Nat.{ℕ, suc, _<_}
+use Prim.Native.Nat.{ℕ, _<_}
 use mathlib.Core.Path.{sym, subst}
 use mathlib.Core.Logic.{⊎-elim}
 use lib.Dec.{T}
 use native.Mathlib.Omega.{arith}
 use native.Mathlib.Numerals.{add-one}
 use borrow.Author.Needs.{needs}
-use Rattle.bitset.specs.Word.{member, inserted}
+use Rattle.bitset.specs.Word.{member}
 use Rattle.bitset.proofs.Scan.{first-member, removed-less, taken-out}
-use Rattle.labels.specs.Words.{firstKept}
-use Rattle.labels.proofs.Spreading.{Placing, spread-start, spread-next, spread-past, spread-end}
+use Rattle.labels.specs.Words.{labelWith, smallestWith, largestWith}
+use Rattle.labels.proofs.Spreading.{SpreadingAll, spread-start, spread-next, spread-past, spread-end}
 use Rattle.labels.proofs.spread.Statement.{statement}
 use Rattle.labels.proofs.spread.Tie as tie
 
 abbrev Inv-loop : tie.InvT-loop
 Inv-loop labels₀ smallest₀ largest₀ row n p latest past rest₀ labels smallest largest rest =
-    Placing p row n labels₀ smallest₀ largest₀ labels smallest largest rest
+    SpreadingAll p row n labels₀ smallest₀ largest₀ labels smallest largest rest
 
 abbrev μ-loop : tie.MeasureT-loop
 μ-loop labels₀ smallest₀ largest₀ row n p latest past rest₀ labels smallest largest rest = rest
@@ -43,19 +43,19 @@ loop-holds : tie.Need-loop-holds Inv-loop μ-loop
 loop-holds c =
     let a = c .args in
     let word = c .fits .row .fits in (
-      spread-start (λ x. inserted x (a .position .0)) (a .row) (a .n) (a .labels .now) word,
-      spread-start (λ x. firstKept (a .position .0) x) (a .row) (a .n) (a .smallest .now) word,
-      spread-start (λ x. suc (a .position .0)) (a .row) (a .n) (a .largest .now) word,
+      spread-start (labelWith (a .position .0)) (a .row) (a .n) (a .labels .now) word,
+      spread-start (smallestWith (a .position .0)) (a .row) (a .n) (a .smallest .now) word,
+      spread-start (largestWith (a .position .0)) (a .row) (a .n) (a .largest .now) word,
     )
 
 smallest-requires : tie.Need-smallest-requires Inv-loop μ-loop
 smallest-requires c κs = search needs
 
-element-copy-out-first-kept : tie.Need-element-copy-out-first-kept Inv-loop μ-loop
-element-copy-out-first-kept c = omega (arith, inside (c .before))
+element-copy-out-smallest-with : tie.Need-element-copy-out-smallest-with Inv-loop μ-loop
+element-copy-out-smallest-with c = omega (arith, inside (c .before))
 
-first-kept-requires : tie.Need-first-kept-requires Inv-loop μ-loop
-first-kept-requires c κs = search needs
+smallest-with-requires : tie.Need-smallest-with-requires Inv-loop μ-loop
+smallest-with-requires c κs = search needs
 
 mul-insert : tie.Need-mul-insert Inv-loop μ-loop
 mul-insert c = omega (arith, inside (c .before .before .before))
@@ -96,16 +96,16 @@ loop-again c =
     let v = n .smallest .result in
     let k = l .loop in
     let now = c .before .if1 in
-    subst (λ (x : ℕ). Placing p (a .row) (a .n) (a .labels .now) (a .smallest .now) (a .largest .now) (now .labels) (now .smallest) (now .largest) x)
+    subst (λ (x : ℕ). SpreadingAll p (a .row) (a .n) (a .labels .now) (a .smallest .now) (a .largest .now) (now .labels) (now .smallest) (now .largest) x)
     (sym (taken-out (k .rest) (c .without-smallest .ensures) (n .smallest .ensures)))
     (⊎-elim (λ x. (
-      spread-next (λ y. inserted y p) (a .row) (a .n) (a .labels .now) (k .labels) (now .labels) (k .rest) (k .inv .0) v (found n .1) (x .0 .taken) (x .5) (x .4 .ensures),
-      spread-next (λ y. firstKept p y) (a .row) (a .n) (a .smallest .now) (k .smallest) (now .smallest) (k .rest) (k .inv .1) v (found n .1) (x .0 .taken) (x .6) (x .2 .ensures),
-      spread-next (λ y. suc p) (a .row) (a .n) (a .largest .now) (k .largest) (now .largest) (k .rest) (k .inv .2) v (found n .1) (x .0 .taken) (x .7) (add-one p),
+      spread-next (labelWith p) (a .row) (a .n) (a .labels .now) (k .labels) (now .labels) (k .rest) (k .inv .0) v (found n .1) (x .0 .taken) (x .5) (x .4 .ensures),
+      spread-next (smallestWith p) (a .row) (a .n) (a .smallest .now) (k .smallest) (now .smallest) (k .rest) (k .inv .1) v (found n .1) (x .0 .taken) (x .6) (x .2 .ensures),
+      spread-next (largestWith p) (a .row) (a .n) (a .largest .now) (k .largest) (now .largest) (k .rest) (k .inv .2) v (found n .1) (x .0 .taken) (x .7) (add-one p),
     )) (λ x. (
-      spread-past (λ y. inserted y p) (a .row) (a .n) (a .labels .now) (k .labels) (now .labels) (k .rest) (k .inv .0) v (x .0 .left) (x .1),
-      spread-past (λ y. firstKept p y) (a .row) (a .n) (a .smallest .now) (k .smallest) (now .smallest) (k .rest) (k .inv .1) v (x .0 .left) (x .2),
-      spread-past (λ y. suc p) (a .row) (a .n) (a .largest .now) (k .largest) (now .largest) (k .rest) (k .inv .2) v (x .0 .left) (x .3),
+      spread-past (labelWith p) (a .row) (a .n) (a .labels .now) (k .labels) (now .labels) (k .rest) (k .inv .0) v (x .0 .left) (x .1),
+      spread-past (smallestWith p) (a .row) (a .n) (a .smallest .now) (k .smallest) (now .smallest) (k .rest) (k .inv .1) v (x .0 .left) (x .2),
+      spread-past (largestWith p) (a .row) (a .n) (a .largest .now) (k .largest) (now .largest) (k .rest) (k .inv .2) v (x .0 .left) (x .3),
     )) (now .came))
 
 returns : tie.Need-returns Inv-loop μ-loop
@@ -114,13 +114,13 @@ returns c =
     let k = c .before .loop in
     let p = a .position .0 in
     let over =
-    subst (λ (x : ℕ). Placing p (a .row) (a .n) (a .labels .now) (a .smallest .now) (a .largest .now) (k .labels) (k .smallest) (k .largest) x)
+    subst (λ (x : ℕ). SpreadingAll p (a .row) (a .n) (a .labels .now) (a .smallest .now) (a .largest .now) (k .labels) (k .smallest) (k .largest) x)
     (c .loop-test .left) (k .inv)
     in (
-      spread-end (λ y. inserted y p) (a .row) (a .n) (a .labels .now) (k .labels) (over .0),
+      spread-end (labelWith p) (a .row) (a .n) (a .labels .now) (k .labels) (over .0),
       (
-        spread-end (λ y. firstKept p y) (a .row) (a .n) (a .smallest .now) (k .smallest) (over .1),
-        spread-end (λ y. suc p) (a .row) (a .n) (a .largest .now) (k .largest) (over .2),
+        spread-end (smallestWith p) (a .row) (a .n) (a .smallest .now) (k .smallest) (over .1),
+        spread-end (largestWith p) (a .row) (a .n) (a .largest .now) (k .largest) (over .2),
       ),
     )
 
@@ -134,8 +134,8 @@ spread-spec =
     add-past
     loop-holds
     smallest-requires
-    element-copy-out-first-kept
-    first-kept-requires
+    element-copy-out-smallest-with
+    smallest-with-requires
     mul-insert
     element-copy-out-insert
     insert-requires

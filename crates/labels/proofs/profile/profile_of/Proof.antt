@@ -26,8 +26,8 @@ element-copy-out-label c = search needs
 element-copy-out-first : tie.Need-element-copy-out-first
 element-copy-out-first c = search needs
 
-element-copy-out-last : tie.Need-element-copy-out-last
-element-copy-out-last c = search needs
+element-copy-out-past : tie.Need-element-copy-out-past
+element-copy-out-past c = search needs
 
 count-requires : tie.Need-count-requires
 count-requires c κs = search needs
@@ -68,4 +68,4 @@ returns-2 c =
 pub profile-of-spec : {M : Type 1} → statement M
 profile-of-spec =
     tie.close
-    (tie.spec cast-v mul-label element-copy-out-label element-copy-out-first element-copy-out-last count-requires returns returns-2)
+    (tie.spec cast-v mul-label element-copy-out-label element-copy-out-first element-copy-out-past count-requires returns returns-2)

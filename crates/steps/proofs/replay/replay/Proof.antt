@@ -91,7 +91,7 @@ returns c =
     let w = now (s .args .ordering) in
     let r = now (s .args .rows) in (
       replay-stop k r w (s .args .k) (l .loop .inv) (v .before .loop-test .taken) (said-true (stopsAt k r w (l .loop .j)) (answered (c .before)) (c .if1 .taken)),
-      (l .loop .inv .set, (l .loop .inv .unplaced, (l .loop .inv .met, (l .loop .inv .labelled, (l .loop .inv .firsts, l .loop .inv .lasts))))),
+      (l .loop .inv .set, (l .loop .inv .unplaced, (l .loop .inv .met, (l .loop .inv .labelled, (l .loop .inv .smallest-after, l .loop .inv .largest-after))))),
     )
 
 row-of-requires : tie.Need-row-of-requires Inv-loop μ-loop
@@ -167,7 +167,7 @@ returns-2 c =
             l .loop .inv .met ∙ ap (λ (m : ℕ). reachedAfter r w m) e,
             (
               l .loop .inv .labelled ∙ ap (λ (m : ℕ). labelsAfter r w m) e,
-              (l .loop .inv .firsts ∙ ap (λ (m : ℕ). smallestAfter r w m) e, l .loop .inv .lasts ∙ ap (λ (m : ℕ). largestAfter r w m) e),
+              (l .loop .inv .smallest-after ∙ ap (λ (m : ℕ). smallestAfter r w m) e, l .loop .inv .largest-after ∙ ap (λ (m : ℕ). largestAfter r w m) e),
             ),
           ),
         ),
