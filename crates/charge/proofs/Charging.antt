@@ -23,6 +23,7 @@ use Rattle.searches.specs.Kind.{searchOf}
 use Rattle.searches.specs.Ordering.{arcs, at}
 use Rattle.searches.specs.Violation.{Verdict, passes, fails, Fails, judge}
 use Rattle.searches.specs.Violation as violation
+use Rattle.searches.specs.declared.Mark.{Mark}
 use Rattle.searches.specs.Answer.{isPass, judgeTests, firstRefusal, Accepts, Refuses, judgeAnswer}
 use Rattle.searches.proofs.Ordering.{ordering-fits}
 use Rattle.searches.proofs.Refusals.{refuses-first, accepts-none, accepts-or-refuses}
@@ -57,58 +58,58 @@ module _ (n : ℕ) (minutes : List ℕ) where
 
 -- ---- what 20's test means
 
-module _ (kind : ℕ) (rows w : List ℕ) where
+module _ (kind : ℕ) (mark : Mark) (rows w : List ℕ) where
   abbrev verdict : Verdict
   verdict = judge (searchOf kind) (arcs rows) (length rows) w (length w)
 
-  pub unpassed-fails : Accepts (judgeTests kind rows w) → T (not (isPass verdict)) → Fails (judgeAnswer kind rows w)
+  pub unpassed-fails : Accepts (judgeTests kind mark rows w) → T (not (isPass verdict)) → Fails (judgeAnswer kind mark rows w)
   unfolding isPass
-  unpassed-fails a t = go (judgeAnswer kind rows w) refl (subst (λ (v : Verdict). T (not (isPass v))) (sym (judge-accepted kind rows w a)) t)
+  unpassed-fails a t = go (judgeAnswer kind mark rows w) refl (subst (λ (v : Verdict). T (not (isPass v))) (sym (judge-accepted kind mark rows w a)) t)
     where
-      go : (v : Verdict) → judgeAnswer kind rows w ≡ v → T (not (isPass v)) → Fails (judgeAnswer kind rows w)
+      go : (v : Verdict) → judgeAnswer kind mark rows w ≡ v → T (not (isPass v)) → Fails (judgeAnswer kind mark rows w)
       go passes e t = absurd t
       go (fails a b c) e t = (a, b, c, e)
       go (violation.refused r) e t =
-          let clash : _≡_ {A = ℕ} 0 1 = cc (accepts-none (judgeTests kind rows w) a, refuses-first (judgeTests kind rows w) r (refused-judge kind rows w r e)) in
+          let clash : _≡_ {A = ℕ} 0 1 = cc (accepts-none (judgeTests kind mark rows w) a, refuses-first (judgeTests kind mark rows w) r (refused-judge kind mark rows w r e)) in
           absurd (omega arith)
 
-  pub fails-accepts : Fails (judgeAnswer kind rows w) → Accepts (judgeTests kind rows w)
-  fails-accepts x = go (accepts-or-refuses (judgeTests kind rows w))
+  pub fails-accepts : Fails (judgeAnswer kind mark rows w) → Accepts (judgeTests kind mark rows w)
+  fails-accepts x = go (accepts-or-refuses (judgeTests kind mark rows w))
     where
-      go : Accepts (judgeTests kind rows w) ⊎ ((q : ℕ) × Refuses q (judgeTests kind rows w)) → Accepts (judgeTests kind rows w)
+      go : Accepts (judgeTests kind mark rows w) ⊎ ((q : ℕ) × Refuses q (judgeTests kind mark rows w)) → Accepts (judgeTests kind mark rows w)
       go (inl a) = a
-      go (inr y) = let clash : _≡_ {A = ℕ} 0 1 = cc (x .3, judge-refused kind rows w (y .0) (y .1)) in absurd (omega arith)
+      go (inr y) = let clash : _≡_ {A = ℕ} 0 1 = cc (x .3, judge-refused kind mark rows w (y .0) (y .1)) in absurd (omega arith)
 
-  pub fails-unpassed : Accepts (judgeTests kind rows w) → Fails (judgeAnswer kind rows w) → T (not (isPass verdict))
+  pub fails-unpassed : Accepts (judgeTests kind mark rows w) → Fails (judgeAnswer kind mark rows w) → T (not (isPass verdict))
   unfolding isPass
-  fails-unpassed a x = subst (λ (v : Verdict). T (not (isPass v))) (sym (x .3) ∙ judge-accepted kind rows w a) tt
+  fails-unpassed a x = subst (λ (v : Verdict). T (not (isPass v))) (sym (x .3) ∙ judge-accepted kind mark rows w a) tt
 
 -- ---- what judge's verdict leaves of the tests
 
-module _ (kind : ℕ) (rows w minutes : List ℕ) (rate : ℕ) where
-  pub judged-refused : (r : ℕ) → violation.refused r ≡ judgeAnswer kind rows w → some r ≡ firstRefusal (chargeTests kind rows w minutes rate)
+module _ (kind : ℕ) (mark : Mark) (rows w minutes : List ℕ) (rate : ℕ) where
+  pub judged-refused : (r : ℕ) → violation.refused r ≡ judgeAnswer kind mark rows w → some r ≡ firstRefusal (chargeTests kind mark rows w minutes rate)
   unfolding chargeTests
   judged-refused r e =
-      refused-before (judgeTests kind rows w) _ (sym (refuses-first (judgeTests kind rows w) r (refused-judge kind rows w r (sym e))))
+      refused-before (judgeTests kind mark rows w) _ (sym (refuses-first (judgeTests kind mark rows w) r (refused-judge kind mark rows w r (sym e))))
 
-  pub judged-decided : {v : Verdict} → v ≡ judgeAnswer kind rows w → ((r : ℕ) → v ≡ violation.refused r → ⊥)
-      → firstRefusal (testsAfterJudge (length rows) minutes rate (isPass v)) ≡ firstRefusal (chargeTests kind rows w minutes rate)
+  pub judged-decided : {v : Verdict} → v ≡ judgeAnswer kind mark rows w → ((r : ℕ) → v ≡ violation.refused r → ⊥)
+      → firstRefusal (testsAfterJudge (length rows) minutes rate (isPass v)) ≡ firstRefusal (chargeTests kind mark rows w minutes rate)
   unfolding chargeTests
-  judged-decided {v} e decided = go (accepts-or-refuses (judgeTests kind rows w))
+  judged-decided {v} e decided = go (accepts-or-refuses (judgeTests kind mark rows w))
     where
-      go : Accepts (judgeTests kind rows w) ⊎ ((q : ℕ) × Refuses q (judgeTests kind rows w))
-          → firstRefusal (testsAfterJudge (length rows) minutes rate (isPass v)) ≡ firstRefusal (chargeTests kind rows w minutes rate)
+      go : Accepts (judgeTests kind mark rows w) ⊎ ((q : ℕ) × Refuses q (judgeTests kind mark rows w))
+          → firstRefusal (testsAfterJudge (length rows) minutes rate (isPass v)) ≡ firstRefusal (chargeTests kind mark rows w minutes rate)
       go (inl a) =
-          ap (λ (x : Verdict). firstRefusal (testsAfterJudge (length rows) minutes rate (isPass x))) (e ∙ judge-accepted kind rows w a)
-          ∙ tried-first (judgeTests kind rows w) (testsAfterJudge (length rows) minutes rate (isPass (verdict kind rows w))) (sym (accepts-none (judgeTests kind rows w) a)) .same
-      go (inr x) = absurd (decided (x .0) (e ∙ judge-refused kind rows w (x .0) (x .1)))
+          ap (λ (x : Verdict). firstRefusal (testsAfterJudge (length rows) minutes rate (isPass x))) (e ∙ judge-accepted kind mark rows w a)
+          ∙ tried-first (judgeTests kind mark rows w) (testsAfterJudge (length rows) minutes rate (isPass (verdict kind mark rows w))) (sym (accepts-none (judgeTests kind mark rows w) a)) .same
+      go (inr x) = absurd (decided (x .0) (e ∙ judge-refused kind mark rows w (x .0) (x .1)))
 
   -- ---- nothing is refused exactly where every condition holds
 
-  pub chargeable-out : Accepts (chargeTests kind rows w minutes rate) → Chargeable kind rows w minutes rate
+  pub chargeable-out : Accepts (chargeTests kind mark rows w minutes rate) → Chargeable kind mark rows w minutes rate
   unfolding chargeTests testsAfterJudge
   chargeable-out a =
-      let x = accepts-both (judgeTests kind rows w) _ a in
+      let x = accepts-both (judgeTests kind mark rows w) _ a in
       let sound : Malformed (length rows) minutes → ⊥ = λ m. x .1 .0 (malformed-in (length rows) minutes m) in
       let as-many : Bool = eqb (length minutes) (length rows) in
       record {
@@ -116,13 +117,13 @@ module _ (kind : ℕ) (rows w minutes : List ℕ) (rate : ℕ) where
         listed = eqb→eq (length minutes) (length rows) (not-not as-many (not-T (not as-many) (λ t. sound (inl (differs (length minutes) (length rows) t)))));
         each = λ v l. nltb→le 999 (at minutes v) (not-T (ltb 999 (at minutes v)) (λ t. sound (inr (v, l, ltb→lt 999 (at minutes v) t))));
         rated = nltb→le 99999 rate (not-T (ltb 99999 rate) (x .1 .1 .0));
-        passing = isPass-out (verdict kind rows w) (not-not (isPass (verdict kind rows w)) (not-T (not (isPass (verdict kind rows w))) (x .1 .1 .1 .0)));
+        passing = isPass-out (verdict kind mark rows w) (not-not (isPass (verdict kind mark rows w)) (not-T (not (isPass (verdict kind mark rows w))) (x .1 .1 .1 .0)));
       }
 
-  pub chargeable-in : Chargeable kind rows w minutes rate → Accepts (chargeTests kind rows w minutes rate)
+  pub chargeable-in : Chargeable kind mark rows w minutes rate → Accepts (chargeTests kind mark rows w minutes rate)
   unfolding chargeTests testsAfterJudge isPass
   chargeable-in able =
-      both-accept (judgeTests kind rows w) _ (able .judged) (
+      both-accept (judgeTests kind mark rows w) _ (able .judged) (
         λ t. sound (malformed-out (length rows) minutes t),
         (λ t. let h = ltb→lt 99999 rate t in let l = able .rated in omega arith, (λ t. subst (λ (v : Verdict). T (not (isPass v))) (able .passing) t, tt)),
       )
@@ -133,11 +134,11 @@ module _ (kind : ℕ) (rows w minutes : List ℕ) (rate : ℕ) where
 
   -- ---- the exact product
 
-  module _ (able : Chargeable kind rows w minutes rate) where
+  module _ (able : Chargeable kind mark rows w minutes rate) where
     pub length-bounded : length w ≤ 64
     length-bounded =
-        let x = accepted-ordering kind rows w (able .judged) in
-        omega (arith, valid-small kind rows (x .0), ordering-fits (length rows) (x .1))
+        let x = accepted-ordering kind mark rows w (able .judged) in
+        omega (arith, valid-small kind mark rows (x .0), ordering-fits (length rows) (x .1))
 
     -- an entry behind the last is 0
     pub entry-bounded : (v : ℕ) → at minutes v ≤ 999
@@ -157,36 +158,36 @@ module _ (kind : ℕ) (rows w minutes : List ℕ) (rate : ℕ) where
   -- ---- the answer
 
   abbrev tests : List (ℕ × Bool)
-  tests = chargeTests kind rows w minutes rate
+  tests = chargeTests kind mark rows w minutes rate
 
-  pub charge-refused : (r : ℕ) → some r ≡ firstRefusal tests → refused r ≡ chargeAnswer kind rows w minutes rate
+  pub charge-refused : (r : ℕ) → some r ≡ firstRefusal tests → refused r ≡ chargeAnswer kind mark rows w minutes rate
   unfolding chargeAnswer
   charge-refused r e = rw (sym e, chargeAnswer)
 
-  pub charge-accepted : none ≡ firstRefusal tests → cents (centsHalvesUp (product (arcs rows) w minutes rate)) ≡ chargeAnswer kind rows w minutes rate
+  pub charge-accepted : none ≡ firstRefusal tests → cents (centsHalvesUp (product (arcs rows) w minutes rate)) ≡ chargeAnswer kind mark rows w minutes rate
   unfolding chargeAnswer
   charge-accepted e = rw (sym e, chargeAnswer)
 
   -- whatever the input, one of the two
-  answered : (Accepts tests × (cents (centsHalvesUp (product (arcs rows) w minutes rate)) ≡ chargeAnswer kind rows w minutes rate))
-      ⊎ ((r : ℕ) × Refuses r tests × (refused r ≡ chargeAnswer kind rows w minutes rate))
+  answered : (Accepts tests × (cents (centsHalvesUp (product (arcs rows) w minutes rate)) ≡ chargeAnswer kind mark rows w minutes rate))
+      ⊎ ((r : ℕ) × Refuses r tests × (refused r ≡ chargeAnswer kind mark rows w minutes rate))
   answered = go (accepts-or-refuses tests)
     where
       go : Accepts tests ⊎ ((q : ℕ) × Refuses q tests)
-          → (Accepts tests × (cents (centsHalvesUp (product (arcs rows) w minutes rate)) ≡ chargeAnswer kind rows w minutes rate))
-          ⊎ ((r : ℕ) × Refuses r tests × (refused r ≡ chargeAnswer kind rows w minutes rate))
+          → (Accepts tests × (cents (centsHalvesUp (product (arcs rows) w minutes rate)) ≡ chargeAnswer kind mark rows w minutes rate))
+          ⊎ ((r : ℕ) × Refuses r tests × (refused r ≡ chargeAnswer kind mark rows w minutes rate))
       go (inl a) = inl (a, charge-accepted (sym (accepts-none tests a)))
       go (inr x) = inr (x .0, x .1, charge-refused (x .0) (sym (refuses-first tests (x .0) (x .1))))
 
-  pub refused-charge : (r : ℕ) → chargeAnswer kind rows w minutes rate ≡ refused r → Refuses r tests
+  pub refused-charge : (r : ℕ) → chargeAnswer kind mark rows w minutes rate ≡ refused r → Refuses r tests
   refused-charge r e =
       elim answered [
         | inl x ↦ let clash : _≡_ {A = ℕ} 0 1 = cc (x .1) in absurd (omega arith)
         | inr x ↦ let same : x .0 ≡ r = cc (x .2) in subst (λ (q : ℕ). Refuses q tests) same (x .1)
       ]
 
-  pub cents-charge : (c : ℕ) → chargeAnswer kind rows w minutes rate ≡ cents c
-      → Chargeable kind rows w minutes rate × (c ≡ centsHalvesUp (product (arcs rows) w minutes rate))
+  pub cents-charge : (c : ℕ) → chargeAnswer kind mark rows w minutes rate ≡ cents c
+      → Chargeable kind mark rows w minutes rate × (c ≡ centsHalvesUp (product (arcs rows) w minutes rate))
   cents-charge c e =
       elim answered [
         | inl x ↦ (chargeable-out (x .0), cc (x .1))

@@ -4,10 +4,10 @@
 --   largestMinutes, largestProduct          64 points of 999 minutes with a jump to all but the first; at the largest rate
 --   malformedMinutes n minutes              the list does not have n entries, or has one above 999;   Malformed n minutes   the same in words
 --   testsAfterJudge n minutes rate passing  what is refused after judge's tests: numbers and tests in 02's order
---   chargeTests kind rows w minutes rate    all tests: judge's, then these
---   Chargeable kind rows w minutes rate     what is not refused, condition by condition
+--   chargeTests kind mark rows w minutes rate   all tests: judge's, then these
+--   Chargeable kind mark rows w minutes rate   what is not refused, condition by condition
 --   Bill                                    cents c: the charge; refused r: the refusal with number r
---   chargeAnswer kind rows w minutes rate   what is answered                                                           [02: K2]
+--   chargeAnswer kind mark rows w minutes rate   what is answered                                                      [02: K2]
 --   billOf                                  an answer of the code as 02's number and values
 use Prim.Native.Nat.{ℕ, _+_, _*_, _/_, _≤_, _<_}
 use mathlib.Core.Path.{_≡_}
@@ -22,6 +22,7 @@ use Rattle.searches.specs.Kind.{searchOf}
 use Rattle.searches.specs.Ordering.{arcs, at}
 use Rattle.searches.specs.Violation.{passes, judge}
 use Rattle.searches.specs.Answer.{isPass, judgeTests, firstRefusal, Accepts, number}
+use Rattle.searches.specs.declared.Mark.{Mark}
 use Rattle.charge.specs.Minutes.{minutesOf}
 use Rattle.charge.specs.declared.Charged.{Charged}
 
@@ -51,14 +52,14 @@ testsAfterJudge n minutes rate passing =
     ∷ (20, not passing)
     ∷ []
 
-unfoldable pub chargeTests : ℕ → List ℕ → List ℕ → List ℕ → ℕ → List (ℕ × Bool)
-chargeTests kind rows w minutes rate =
-    judgeTests kind rows w
+unfoldable pub chargeTests : ℕ → Mark → List ℕ → List ℕ → List ℕ → ℕ → List (ℕ × Bool)
+chargeTests kind mark rows w minutes rate =
+    judgeTests kind mark rows w
     ++ testsAfterJudge (length rows) minutes rate (isPass (judge (searchOf kind) (arcs rows) (length rows) w (length w)))
 
-pub record Chargeable (kind : ℕ) (rows w minutes : List ℕ) (rate : ℕ) : Type 0 where
+pub record Chargeable (kind : ℕ) (mark : Mark) (rows w minutes : List ℕ) (rate : ℕ) : Type 0 where
   -- judge refuses nothing
-  pub judged : Accepts (judgeTests kind rows w)
+  pub judged : Accepts (judgeTests kind mark rows w)
   -- the list of minutes has n entries, none above 999
   pub listed : length minutes ≡ length rows
   pub each : (v : ℕ) → v < length minutes → at minutes v ≤ 999
@@ -71,9 +72,9 @@ pub data Bill : Type 0 where
   cents : ℕ → Bill
   refused : ℕ → Bill
 
-unfoldable pub chargeAnswer : ℕ → List ℕ → List ℕ → List ℕ → ℕ → Bill
-chargeAnswer kind rows w minutes rate =
-    elim (firstRefusal (chargeTests kind rows w minutes rate)) [
+unfoldable pub chargeAnswer : ℕ → Mark → List ℕ → List ℕ → List ℕ → ℕ → Bill
+chargeAnswer kind mark rows w minutes rate =
+    elim (firstRefusal (chargeTests kind mark rows w minutes rate)) [
       | none ↦ cents (centsHalvesUp (product (arcs rows) w minutes rate))
       | some r ↦ refused r
     ]

@@ -2,6 +2,7 @@
 // rate there can be. No function here alters a list.
 use searches::Judgement;
 use searches::Kind;
+use searches::Mark;
 use searches::Outcome;
 use searches::Position;
 use searches::Refusal;
@@ -23,11 +24,19 @@ pub enum Charged {
 
 // The charge, in cents, for an ordering that passes the search `kind`. The minutes of its vertices are those in `minutes`, entry v for vertex v, and
 // 7 more for each vertex after the first to which the one placed directly before it does not lead. Minutes times `rate`, in cents an hour, divided by
-// 60, is rounded to the nearest cent, halves up. Everything else is refused (1 to 6, 8, 9, 18, 19, 20). Alters nothing.
-pub fn charge(kind: Kind, rows: &[u64], ordering: &[u8], minutes: &[u16], rate: u64) -> Charged
-    ensures { λ r. ⌜ billOf r ≡ chargeAnswer (kind .0) (now (rows .entry)) (now (ordering .entry)) (now (minutes .entry)) rate ⌝ }
+// 60, is rounded to the nearest cent, halves up. Everything else is refused (1 to 6, 8, 9, 18, 19, 20; 5 for two-way graphs
+// only). Alters nothing.
+pub fn charge(
+    kind: Kind,
+    mark: Mark,
+    rows: &[u64],
+    ordering: &[u8],
+    minutes: &[u16],
+    rate: u64,
+) -> Charged
+    ensures { λ r. ⌜ billOf r ≡ chargeAnswer (kind .0) mark (now (rows .entry)) (now (ordering .entry)) (now (minutes .entry)) rate ⌝ }
 {
-    let checked = charge_refusal(kind, rows, ordering, minutes, rate);
+    let checked = charge_refusal(kind, mark, rows, ordering, minutes, rate);
     if let Outcome::Refused(refusal) = checked {
         return Charged::Refused(refusal);
     }
@@ -36,11 +45,18 @@ pub fn charge(kind: Kind, rows: &[u64], ordering: &[u8], minutes: &[u16], rate: 
 }
 
 // The first of refusals 1 to 6, 8, 9, 18, 19 and 20 that applies, else `Done`.
-fn charge_refusal(kind: Kind, rows: &[u64], ordering: &[u8], minutes: &[u16], rate: u64) -> Outcome
-    ensures { λ r. ⌜ refusalOf r ≡ firstRefusal (chargeTests (kind .0) (now (rows .entry)) (now (ordering .entry)) (now (minutes .entry)) rate) ⌝ }
+fn charge_refusal(
+    kind: Kind,
+    mark: Mark,
+    rows: &[u64],
+    ordering: &[u8],
+    minutes: &[u16],
+    rate: u64,
+) -> Outcome
+    ensures { λ r. ⌜ refusalOf r ≡ firstRefusal (chargeTests (kind .0) mark (now (rows .entry)) (now (ordering .entry)) (now (minutes .entry)) rate) ⌝ }
 {
     let n = rows.len();
-    let judged = engine::judge(kind, rows, ordering);
+    let judged = engine::judge(kind, mark, rows, ordering);
     match judged {
         Judgement::Passes => refusal_after_judge(n, minutes, rate, true),
         Judgement::Fails(_) => refusal_after_judge(n, minutes, rate, false),

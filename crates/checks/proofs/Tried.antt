@@ -17,6 +17,7 @@ use lib.ListN.{length}
 use Rattle.bitset.proofs.Tests.{is-false, below-or}
 use Rattle.searches.specs.Ordering.{at}
 use Rattle.searches.specs.Answer.{openTests, firstRefusal, vertexOutside}
+use Rattle.searches.specs.declared.Mark.{Mark}
 use Rattle.searches.proofs.Refusals.{none-accepts, vertexOutside-in}
 
 pub record Tried (tests later : List (ℕ × Bool)) : Type 0 where
@@ -64,9 +65,9 @@ refused-before a b e = ap (λ (first : Option ℕ). otherwise first (firstRefusa
 -- ---- what the tests that were passed say of the lists
 
 -- no more than 64 rows are let through
-pub rows-fit : (kind : ℕ) (rows : List ℕ) → none ≡ firstRefusal (openTests kind rows) → length rows ≤ 64
+pub rows-fit : (kind : ℕ) (mark : Mark) (rows : List ℕ) → none ≡ firstRefusal (openTests kind mark rows) → length rows ≤ 64
 unfolding openTests
-rows-fit kind rows e = ltb-false 64 (length rows) (is-false (ltb 64 (length rows)) (none-accepts (openTests kind rows) (sym e) .1 .0))
+rows-fit kind mark rows e = ltb-false 64 (length rows) (is-false (ltb 64 (length rows)) (none-accepts (openTests kind mark rows) (sym e) .1 .0))
 
 -- entries that name vertices fit a set
 pub entries-fit : {n : ℕ} (w : List ℕ) {k : ℕ} → n ≤ 64 → vertexOutside n w k ≡ false → (p : ℕ) → p < k → at w p < 64

@@ -11,6 +11,7 @@ ghost use Rattle.searches.specs.Answer.{vertexOutside, openTests, judgeTests, l
 ghost use Rattle.searches.specs.Answer as answer;
 ghost use Rattle.checks.specs.Row.{oneWayAt, refusedAt};
 use searches::Kind;
+use searches::Mark;
 use searches::Outcome;
 use searches::Refusal;
 
@@ -88,9 +89,9 @@ pub fn repeated(list: &[u8], k: usize) -> bool
     false
 }
 
-// The first of refusals 1 to 5 that applies to `kind` and `rows`, else `Done`. It alters neither.
-pub fn open_refusal(kind: Kind, rows: &[u64]) -> Outcome
-    ensures { λ r. ⌜ refusalOf r ≡ firstRefusal (openTests (kind .0) (now (rows .entry))) ⌝ }
+// The first of refusals 1 to 5 that applies to `kind` and `rows`, else `Done`; 5 for two-way graphs only. It alters neither.
+pub fn open_refusal(kind: Kind, mark: Mark, rows: &[u64]) -> Outcome
+    ensures { λ r. ⌜ refusalOf r ≡ firstRefusal (openTests (kind .0) mark (now (rows .entry))) ⌝ }
 {
     if Kind::MCS.0 < kind.0 {
         return Outcome::Refused(Refusal::UnknownKind);
@@ -107,6 +108,9 @@ pub fn open_refusal(kind: Kind, rows: &[u64]) -> Outcome
     if looped < n {
         return Outcome::Refused(Refusal::SelfLoop);
     }
+    if let Mark::OneWay = mark {
+        return Outcome::Done;
+    }
     if first_refused(rows, 5) < n {
         return Outcome::Refused(Refusal::OneWayArc);
     }
@@ -114,10 +118,10 @@ pub fn open_refusal(kind: Kind, rows: &[u64]) -> Outcome
 }
 
 // The first of refusals 1 to 6, 8 and 9 that applies to `ordering` on this graph, else `Done`. It alters no list.
-pub fn judge_refusal(kind: Kind, rows: &[u64], ordering: &[u8]) -> Outcome
-    ensures { λ r. ⌜ refusalOf r ≡ firstRefusal (judgeTests (kind .0) (now (rows .entry)) (now (ordering .entry))) ⌝ }
+pub fn judge_refusal(kind: Kind, mark: Mark, rows: &[u64], ordering: &[u8]) -> Outcome
+    ensures { λ r. ⌜ refusalOf r ≡ firstRefusal (judgeTests (kind .0) mark (now (rows .entry)) (now (ordering .entry))) ⌝ }
 {
-    let opened = open_refusal(kind, rows);
+    let opened = open_refusal(kind, mark, rows);
     if let Outcome::Refused(refusal) = opened {
         return Outcome::Refused(refusal);
     }
@@ -137,10 +141,17 @@ pub fn judge_refusal(kind: Kind, rows: &[u64], ordering: &[u8]) -> Outcome
 
 // The first of refusals 1 to 6, 10, 7, 8 and 9, in this order, that applies to carrying on the first `k` entries of
 // `output`, else `Done`. It alters no list, and any `k` may be given.
-pub fn list_refusal(kind: Kind, rows: &[u64], tie_break: &[u8], output: &[u8], k: usize) -> Outcome
-    ensures { λ r. ⌜ refusalOf r ≡ firstRefusal (listTests (kind .0) (now (rows .entry)) (now («tie_break» .entry)) (now (output .entry)) k) ⌝ }
+pub fn list_refusal(
+    kind: Kind,
+    mark: Mark,
+    rows: &[u64],
+    tie_break: &[u8],
+    output: &[u8],
+    k: usize,
+) -> Outcome
+    ensures { λ r. ⌜ refusalOf r ≡ firstRefusal (listTests (kind .0) mark (now (rows .entry)) (now («tie_break» .entry)) (now (output .entry)) k) ⌝ }
 {
-    let opened = open_refusal(kind, rows);
+    let opened = open_refusal(kind, mark, rows);
     if let Outcome::Refused(refusal) = opened {
         return Outcome::Refused(refusal);
     }

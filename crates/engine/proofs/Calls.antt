@@ -1,10 +1,10 @@
 -- The two public calls, from what their parts answer.
---   valid-both-ways                   every link of a valid graph goes both ways
+--   valid-both-ways, valid-own-transpose, valid-turns   every link of a valid two-way graph goes both ways; what is counted in are the columns
 --   replayable                        an ordering can be replayed on empty labels and without running values
 --   fault-there, fault-judged         where the replay stops there is a violation, and the first one is judge's verdict
 --   stopped-fails, ended-passes, along-ended, whole-filled, filled-carried   what extend answers and leaves
 --   moment-refused, moment-stopped, moment-ended   what after hands back
---   judge-asked-*, carryOn-asked-*    the answers of the calls, from the checks' answer
+--   judge-asked-*, carryOn-asked-*    the answers of the calls, and that the graph is valid, from the checks' answer
 -- Assumes nothing.
 use mathlib.Core.Path.{_≡_, refl, sym, ap, ap₂, _∙_, subst}
 use mathlib.Core.Bool.{Bool, true, false, cond, not}
@@ -16,20 +16,23 @@ use lib.Dec.{T, not-T, T-not}
 use lib.ListN.{length, take, drop, replicate, length-drop, drop-of-length-le}
 use lib.Seq.{take-all, drop-drop}
 use Rattle.bitset.specs.Below.{anyBelow, firstBelow}
-use Rattle.bitset.proofs.Tests.{not-not, same-test}
+use Rattle.bitset.proofs.Tests.{and-in, not-not, same-test}
 use Rattle.bitset.proofs.Below.{first}
 use Rattle.bitset.proofs.Passed.{some-found}
 use Rattle.searches.specs.Kind.{Search, searchOf}
 use Rattle.searches.specs.Ordering.{arcs}
 use Rattle.searches.specs.Violation.{Verdict, passes, refused, judge}
 use Rattle.searches.specs.CarryOn.{carryOn}
-use Rattle.searches.specs.Answer.{isPass, openTests, Accepts, judgeTests, listTests, carryOnTests, firstRefusal, judgeAnswer, carryOnAnswer, carryOnOutput}
+use Rattle.searches.specs.Answer.{oneWay, isTwoWay, BothWays, isPass, openTests, Accepts, judgeTests, listTests, carryOnTests, firstRefusal, judgeAnswer, carryOnAnswer, carryOnOutput}
+use Rattle.searches.specs.declared.Mark.{Mark}
 use Rattle.searches.proofs.Ordering.{ordering-fits}
 use Rattle.searches.proofs.CarryOn.{passes-greedy}
 use Rattle.searches.proofs.Refusals.{none-accepts, first-refuses, oneWay-in}
 use Rattle.searches.proofs.Answers as answers
 use Rattle.checks.proofs.Tried.{tried-first, refused-before}
-use Rattle.steps.specs.Steps.{labelsAfter, smallestAfter, largestAfter, placedAfter, freeAfter, stopsAt, lastIn, firstIn, firstFault, fillIn, BothWays, Replayable, Searchable, Along}
+use Rattle.steps.specs.Columns.{columnsOf, Transposed}
+use Rattle.steps.specs.Steps.{labelsAfter, smallestAfter, largestAfter, placedAfter, freeAfter, stopsAt, lastIn, firstIn, firstFault, fillIn, Replayable, Searchable, Along}
+use Rattle.steps.proofs.Turning.{own-transpose, columns-turn}
 use Rattle.steps.proofs.Tracking.{consistent-after}
 use Rattle.steps.proofs.Growing.{along-start}
 use Rattle.engine.specs.declared.after.Moment.{Moment}
@@ -38,23 +41,35 @@ use Rattle.engine.specs.Moments.{noMoment, momentOf, momentAfter}
 use Rattle.engine.proofs.Judging.{first-before, judge-fails-words, judge-passes-words}
 use Rattle.engine.proofs.Filling.{carry-fills}
 
--- in a graph that is not refused with 5 every link goes both ways
-pub valid-both-ways : (kind : ℕ) (rows : List ℕ) → Accepts (openTests kind rows) → BothWays rows
-unfolding openTests
-valid-both-ways kind rows a u v l h = same-test (arcs rows u v) (arcs rows v u) (back u v l h) (back v u h l)
-  where
-    back : (u v : ℕ) → u < length rows → v < length rows → T (arcs rows u v) → T (arcs rows v u)
-    back u v l h t = not-not (arcs rows v u) (not-T (not (arcs rows v u)) (λ none. a .1 .1 .1 .1 .0 (oneWay-in rows u v l h t (T-not (arcs rows v u) none))))
+module _ (kind : ℕ) (mark : Mark) (rows : List ℕ) (valid : Accepts (openTests kind mark rows)) where
+  -- in a two-way graph that is not refused with 5 every link goes both ways
+  pub valid-both-ways : T (isTwoWay mark) → BothWays rows
+  unfolding openTests
+  valid-both-ways two-way u v l h = same-test (arcs rows u v) (arcs rows v u) (back u v l h) (back v u h l)
+    where
+      back : (u v : ℕ) → u < length rows → v < length rows → T (arcs rows u v) → T (arcs rows v u)
+      back u v l h t =
+          not-not (arcs rows v u) (not-T (not (arcs rows v u)) (λ none.
+          valid .1 .1 .1 .1 .0 (and-in (isTwoWay mark) (oneWay rows) two-way (oneWay-in rows u v l h t (T-not (arcs rows v u) none)))))
 
-module _ (rows w : List ℕ) (k : ℕ) (x : Judgeable rows w k) where
-  pub replayable : Replayable rows w k (replicate 64 0) (replicate 64 64) (replicate 64 0)
+  -- so its rows are their own transpose,
+  pub valid-own-transpose : mark ≡ Mark.TwoWay → Transposed rows rows
+  unfolding isTwoWay
+  valid-own-transpose e = own-transpose rows (valid-both-ways (subst (λ (m : Mark). T (isTwoWay m)) (sym e) tt))
+
+  -- and what is counted in are the columns, whatever the mark
+  pub valid-turns : Transposed rows (take (length rows) (columnsOf mark rows))
+  valid-turns = columns-turn rows (answers.valid-small kind mark rows valid) mark valid-both-ways
+
+module _ (rows : List ℕ) {columns : List ℕ} (w : List ℕ) (k : ℕ) (x : Judgeable rows columns w k) where
+  pub replayable : Replayable rows columns w k (replicate 64 0) (replicate 64 64) (replicate 64 0)
   replayable = record {
     long = x .ordering .long;
     fits = ordering-fits (length rows) (x .ordering);
     small = x .small;
     vertices = x .ordering .vertices;
     distinct = x .ordering .distinct;
-    both-ways = x .both-ways;
+    turned = x .turned;
     empty = refl;
     no-smallest = refl;
     no-largest = refl;
@@ -63,7 +78,7 @@ module _ (rows w : List ℕ) (k : ℕ) (x : Judgeable rows w k) where
   module _ (s : Search) (j : ℕ) (stops : j ≡ firstBelow k (stopsAt s rows w)) where
     module _ (labels : List ℕ) (placed free : ℕ) (l : j < k) (at-labels : labels ≡ labelsAfter rows w j) (at-placed : placed ≡ placedAfter w j) (at-free : free ≡ freeAfter (length rows) w j) where
       module _ {smallest largest : List ℕ} (at-smallest : smallest ≡ smallestAfter rows w j) (at-largest : largest ≡ largestAfter rows w j) where
-        searchable : Searchable rows w k labels smallest largest placed free j
+        searchable : Searchable rows columns w k labels smallest largest placed free j
         searchable = record {
           long = x .ordering .long;
           inside = l;
@@ -71,10 +86,10 @@ module _ (rows w : List ℕ) (k : ℕ) (x : Judgeable rows w k) where
           small = x .small;
           vertices = x .ordering .vertices;
           unplaced = at-free;
-          consistent = consistent-after rows w k (x .small) (x .ordering) (x .both-ways) j (omega arith) at-labels at-smallest at-largest at-placed;
+          consistent = consistent-after rows w k (x .small) (x .ordering) (x .turned) j (omega arith) at-labels at-smallest at-largest at-placed;
         }
 
-        pub fault-there : Searchable rows w k labels smallest largest placed free j × T (anyBelow j (firstIn s rows w labels free j k))
+        pub fault-there : Searchable rows columns w k labels smallest largest placed free j × T (anyBelow j (firstIn s rows w labels free j k))
         fault-there = (
           searchable,
           subst (λ (ls : List ℕ). T (anyBelow j (firstIn s rows w ls free j k))) (sym at-labels)
@@ -133,7 +148,7 @@ whole-filled out F k n l h =
     ∙ ap (λ (a : List ℕ). take k out ++ a) (append-nil (F ++ drop (n - k) (drop k out))) ∙ ap (λ (a : List ℕ). take k out ++ (F ++ a)) behind
     ∙ sym (append-assoc (take k out) F (drop n out))
 
-pub filled-carried : (s : Search) (rows t out : List ℕ) (k : ℕ) → Extendable rows t out k
+pub filled-carried : (s : Search) (rows : List ℕ) {columns : List ℕ} (t out : List ℕ) (k : ℕ) → Extendable rows columns t out k
     → (count free : ℕ) (labels ys : List ℕ) → count ≡ firstBelow k (stopsAt s rows out) → k ≤ count → labels ≡ labelsAfter rows out count
     → free ≡ freeAfter (length rows) out count
     → ys ≡ fillIn s rows t (length rows - k) k labels free ++ drop (length rows - k) (take (length out - k) (drop k out))
@@ -155,82 +170,91 @@ filled-carried s rows t out k x count free labels ys stops ended at-labels at-fr
 
 -- ---- from the checks' answer to the calls' answers
 
-module _ (kind : ℕ) (rows w : List ℕ) where
-  pub judge-asked-refused : (q : ℕ) → some q ≡ firstRefusal (judgeTests kind rows w) → refused q ≡ judgeAnswer kind rows w
-  judge-asked-refused q e = sym (answers.judge-refused kind rows w q (first-refuses (judgeTests kind rows w) q (sym e)))
+module _ (kind : ℕ) (mark : Mark) (rows w : List ℕ) where
+  pub judge-asked-refused : (q : ℕ) → some q ≡ firstRefusal (judgeTests kind mark rows w) → refused q ≡ judgeAnswer kind mark rows w
+  judge-asked-refused q e = sym (answers.judge-refused kind mark rows w q (first-refuses (judgeTests kind mark rows w) q (sym e)))
 
-  pub judge-asked-accepted : none ≡ firstRefusal (judgeTests kind rows w)
-      → Judgeable rows w (length w) × (judge (searchOf kind) (arcs rows) (length rows) w (length w) ≡ judgeAnswer kind rows w)
-  judge-asked-accepted e =
-      let a = none-accepts (judgeTests kind rows w) (sym e) in
-      let x = answers.accepted-ordering kind rows w a in
-      (record { small = answers.valid-small kind rows (x .0); both-ways = valid-both-ways kind rows (x .0); ordering = x .1 }, sym (answers.judge-accepted kind rows w a))
+  pub judge-asked-valid : none ≡ firstRefusal (judgeTests kind mark rows w) → Accepts (openTests kind mark rows)
+  judge-asked-valid e = answers.accepted-ordering kind mark rows w (none-accepts (judgeTests kind mark rows w) (sym e)) .0
+
+  pub judge-asked-accepted : none ≡ firstRefusal (judgeTests kind mark rows w) → {columns : List ℕ} → Transposed rows columns
+      → Judgeable rows columns w (length w) × (judge (searchOf kind) (arcs rows) (length rows) w (length w) ≡ judgeAnswer kind mark rows w)
+  judge-asked-accepted e across =
+      let a = none-accepts (judgeTests kind mark rows w) (sym e) in
+      let x = answers.accepted-ordering kind mark rows w a in
+      (record { small = answers.valid-small kind mark rows (x .0); turned = across; ordering = x .1 }, sym (answers.judge-accepted kind mark rows w a))
 
   -- ---- what `after` hands back
 
-  pub moment-none : {r : Moment} → r ≡ noMoment → false ≡ isPass (judgeAnswer kind rows w) → r ≡ momentAfter kind rows w
+  pub moment-none : {r : Moment} → r ≡ noMoment → false ≡ isPass (judgeAnswer kind mark rows w) → r ≡ momentAfter kind mark rows w
   unfolding momentAfter
-  moment-none is fails = is ∙ ap (λ (b : Bool). cond b (momentOf rows w) noMoment) fails
+  moment-none is fails = is ∙ ap (λ (b : Bool). cond b (momentOf mark rows w) noMoment) fails
 
-  pub moment-refused : {r : Moment} → r ≡ noMoment → (q : ℕ) → some q ≡ firstRefusal (judgeTests kind rows w) → r ≡ momentAfter kind rows w
+  pub moment-refused : {r : Moment} → r ≡ noMoment → (q : ℕ) → some q ≡ firstRefusal (judgeTests kind mark rows w) → r ≡ momentAfter kind mark rows w
   unfolding isPass
   moment-refused is q e = moment-none is (ap isPass (judge-asked-refused q e))
 
   -- an ordering that was placed again up to `count`
-  module _ (accepted : none ≡ firstRefusal (judgeTests kind rows w)) (count : ℕ) (stops : count ≡ firstBelow (length w) (stopsAt (searchOf kind) rows w)) where
-    asked : Judgeable rows w (length w) × (judge (searchOf kind) (arcs rows) (length rows) w (length w) ≡ judgeAnswer kind rows w)
-    asked = judge-asked-accepted accepted
+  module _ (accepted : none ≡ firstRefusal (judgeTests kind mark rows w)) (count : ℕ) (stops : count ≡ firstBelow (length w) (stopsAt (searchOf kind) rows w)) where
+    asked : Judgeable rows (take (length rows) (columnsOf mark rows)) w (length w)
+        × (judge (searchOf kind) (arcs rows) (length rows) w (length w) ≡ judgeAnswer kind mark rows w)
+    asked = judge-asked-accepted accepted (valid-turns kind mark rows (judge-asked-valid accepted))
 
-    pub moment-stopped : {r : Moment} → r ≡ noMoment → count < length w → r ≡ momentAfter kind rows w
+    pub moment-stopped : {r : Moment} → r ≡ noMoment → count < length w → r ≡ momentAfter kind mark rows w
     moment-stopped is l =
         moment-none is
         (sym (stopped-fails rows w (length w) (asked .0) (searchOf kind) count stops (labelsAfter rows w count) (placedAfter w count) (freeAfter (length rows) w count) l refl refl refl)
         ∙ ap isPass (asked .1))
 
-    pub moment-ended : {placed free : ℕ} {labels smallest largest : List ℕ} → length w ≤ count → placed ≡ placedAfter w count → free ≡ freeAfter (length rows) w count
+    pub moment-ended : {placed free : ℕ} {columns labels smallest largest : List ℕ} → length w ≤ count → columns ≡ columnsOf mark rows → placed ≡ placedAfter w count → free ≡ freeAfter (length rows) w count
         → labels ≡ labelsAfter rows w count → smallest ≡ smallestAfter rows w count → largest ≡ largestAfter rows w count
-        → record { passes = true; placed = placed; free = free; labels = labels; smallest = smallest; largest = largest } ≡ momentAfter kind rows w
+        → record { passes = true; placed = placed; free = free; columns = columns; labels = labels; smallest = smallest; largest = largest } ≡ momentAfter kind mark rows w
     unfolding momentAfter momentOf isPass
-    moment-ended {placed} {free} {labels} {smallest} {largest} l at-placed at-free at-labels at-smallest at-largest =
+    moment-ended {placed} {free} {columns} {labels} {smallest} {largest} l at-columns at-placed at-free at-labels at-smallest at-largest =
         let whole : count ≡ length w = omega (arith, stops, first (length w) (stopsAt (searchOf kind) rows w) .within) in
-        let passing : true ≡ isPass (judgeAnswer kind rows w) =
+        let passing : true ≡ isPass (judgeAnswer kind mark rows w) =
         ap isPass (sym (ended-passes rows w (length w) (asked .0) (searchOf kind) count stops l) ∙ asked .1)
         in
-        ap₂ (λ (p f : ℕ). handed p f labels smallest largest) at-placed at-free
-        ∙ ap₂ (λ (ls ss : List ℕ). handed (placedAfter w count) (freeAfter (length rows) w count) ls ss largest) at-labels at-smallest
-        ∙ ap (λ (ls : List ℕ). handed (placedAfter w count) (freeAfter (length rows) w count) (labelsAfter rows w count) (smallestAfter rows w count) ls) at-largest
-        ∙ ap (λ (j : ℕ). handed (placedAfter w j) (freeAfter (length rows) w j) (labelsAfter rows w j) (smallestAfter rows w j) (largestAfter rows w j)) whole
-        ∙ ap (λ (b : Bool). cond b (momentOf rows w) noMoment) passing
+        ap (λ (cs : List ℕ). handed cs placed free labels smallest largest) at-columns
+        ∙ ap₂ (λ (p f : ℕ). handed (columnsOf mark rows) p f labels smallest largest) at-placed at-free
+        ∙ ap₂ (λ (ls ss : List ℕ). handed (columnsOf mark rows) (placedAfter w count) (freeAfter (length rows) w count) ls ss largest) at-labels at-smallest
+        ∙ ap (λ (ls : List ℕ). handed (columnsOf mark rows) (placedAfter w count) (freeAfter (length rows) w count) (labelsAfter rows w count) (smallestAfter rows w count) ls) at-largest
+        ∙ ap (λ (j : ℕ). handed (columnsOf mark rows) (placedAfter w j) (freeAfter (length rows) w j) (labelsAfter rows w j) (smallestAfter rows w j) (largestAfter rows w j)) whole
+        ∙ ap (λ (b : Bool). cond b (momentOf mark rows w) noMoment) passing
       where
-        handed : ℕ → ℕ → List ℕ → List ℕ → List ℕ → Moment
-        handed p f ls ss gs = record { passes = true; placed = p; free = f; labels = ls; smallest = ss; largest = gs }
+        handed : List ℕ → ℕ → ℕ → List ℕ → List ℕ → List ℕ → Moment
+        handed cs p f ls ss gs = record { passes = true; placed = p; free = f; columns = cs; labels = ls; smallest = ss; largest = gs }
 
-module _ (kind : ℕ) (rows t out : List ℕ) (k : ℕ) where
+module _ (kind : ℕ) (mark : Mark) (rows t out : List ℕ) (k : ℕ) where
   abbrev verdict : Verdict
   verdict = judge (searchOf kind) (arcs rows) (length rows) out k
 
-  pub carryOn-asked-refused : (q : ℕ) → some q ≡ firstRefusal (listTests kind rows t out k)
-      → (some q ≡ carryOnAnswer kind rows t out k) × (out ≡ carryOnOutput kind rows t out k)
+  pub carryOn-asked-refused : (q : ℕ) → some q ≡ firstRefusal (listTests kind mark rows t out k)
+      → (some q ≡ carryOnAnswer kind mark rows t out k) × (out ≡ carryOnOutput kind mark rows t out k)
   unfolding carryOnAnswer carryOnTests
   carryOn-asked-refused q e =
-      let r : some q ≡ firstRefusal (carryOnTests kind rows t out k) = refused-before (listTests kind rows t out k) ((12, not (isPass verdict)) ∷ []) e in
-      (r, sym (answers.carryOn-kept kind rows t out k q (first-refuses (carryOnTests kind rows t out k) q (sym r))))
+      let r : some q ≡ firstRefusal (carryOnTests kind mark rows t out k) = refused-before (listTests kind mark rows t out k) ((12, not (isPass verdict)) ∷ []) e in
+      (r, sym (answers.carryOn-kept kind mark rows t out k q (first-refuses (carryOnTests kind mark rows t out k) q (sym r))))
 
-  pub carryOn-asked-accepted : none ≡ firstRefusal (listTests kind rows t out k) → Extendable rows t out k
-  carryOn-asked-accepted e =
-      let x = answers.accepted-lists kind rows t out k (none-accepts (listTests kind rows t out k) (sym e)) in
-      record { start = record { small = answers.valid-small kind rows (x .valid); both-ways = valid-both-ways kind rows (x .valid); ordering = x .start }; room = x .room; names = x .tie-break }
+  pub carryOn-asked-valid : none ≡ firstRefusal (listTests kind mark rows t out k) → Accepts (openTests kind mark rows)
+  carryOn-asked-valid e = answers.accepted-lists kind mark rows t out k (none-accepts (listTests kind mark rows t out k) (sym e)) .valid
+
+  pub carryOn-asked-accepted : none ≡ firstRefusal (listTests kind mark rows t out k) → {columns : List ℕ} → Transposed rows columns
+      → Extendable rows columns t out k
+  carryOn-asked-accepted e across =
+      let x = answers.accepted-lists kind mark rows t out k (none-accepts (listTests kind mark rows t out k) (sym e)) in
+      record { start = record { small = answers.valid-small kind mark rows (x .valid); turned = across; ordering = x .start }; room = x .room; names = x .tie-break }
 
   -- the last test is on the start
-  pub carryOn-asked-last : none ≡ firstRefusal (listTests kind rows t out k)
-      → (cond (isPass verdict) none (some 12) ≡ carryOnAnswer kind rows t out k)
-      × (cond (isPass verdict) (carryOn (searchOf kind) (arcs rows) (length rows) t out k ++ drop (length rows) out) out ≡ carryOnOutput kind rows t out k)
+  pub carryOn-asked-last : none ≡ firstRefusal (listTests kind mark rows t out k)
+      → (cond (isPass verdict) none (some 12) ≡ carryOnAnswer kind mark rows t out k)
+      × (cond (isPass verdict) (carryOn (searchOf kind) (arcs rows) (length rows) t out k ++ drop (length rows) out) out ≡ carryOnOutput kind mark rows t out k)
   unfolding carryOnAnswer carryOnTests carryOnOutput firstRefusal
   carryOn-asked-last e =
-      let last : firstRefusal (carryOnTests kind rows t out k) ≡ cond (isPass verdict) none (some 12) =
-      sym (tried-first (listTests kind rows t out k) ((12, not (isPass verdict)) ∷ []) e .same) ∙ turned (isPass verdict)
+      let last : firstRefusal (carryOnTests kind mark rows t out k) ≡ cond (isPass verdict) none (some 12) =
+      sym (tried-first (listTests kind mark rows t out k) ((12, not (isPass verdict)) ∷ []) e .same) ∙ turned (isPass verdict)
       in
-      (sym last, left (isPass verdict) (firstRefusal (carryOnTests kind rows t out k)) last)
+      (sym last, left (isPass verdict) (firstRefusal (carryOnTests kind mark rows t out k)) last)
     where
       turned : (b : Bool) → cond {A = Option ℕ} (not b) (some 12) none ≡ cond b none (some 12)
       turned true = refl

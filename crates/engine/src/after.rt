@@ -1,15 +1,17 @@
-// The placed and the unplaced vertices, the labels and the running values after an ordering, for a caller that continues it.
+// The placed and the unplaced vertices, the labels and the running values after an ordering, and the graph's columns, for a caller that continues it.
 use searches::Kind;
+use searches::Mark;
 use searches::Outcome;
 ghost use mathlib.Core.Path.{_≡_};
 ghost use Rattle.engine.specs.Moments.{noMoment, momentAfter};
 
-// Whether judge passes an ordering, and the placed and the unplaced vertices, the labels and the running values after it; where it does not
-// pass, no vertex, empty labels and no value.
+// Whether judge passes an ordering, and the placed and the unplaced vertices, the labels and the running values after it, with the columns of its
+// graph, in which MCS counts; where it does not pass, no vertex, empty labels, no value and empty columns.
 pub struct Moment {
     pub passes: bool,
     pub placed: u64,
     pub free: u64,
+    pub columns: [u64; 64],
     pub labels: [u64; 64],
     pub smallest: [u8; 64],
     pub largest: [u8; 64],
@@ -19,6 +21,7 @@ pub struct Moment {
 pub fn no_moment() -> Moment
     ensures { λ r. ⌜ r ≡ noMoment ⌝ }
 {
+    let columns = [0u64; 64];
     let labels = [0u64; 64];
     let smallest = [64u8; 64];
     let largest = [0u8; 64];
@@ -26,6 +29,7 @@ pub fn no_moment() -> Moment
         passes: false,
         placed: 0,
         free: 0,
+        columns,
         labels,
         smallest,
         largest,
@@ -33,20 +37,24 @@ pub fn no_moment() -> Moment
 }
 
 // Judges an ordering for a caller that continues it: it is checked and replayed once. Alters nothing.
-pub fn after(kind: Kind, rows: &[u64], ordering: &[u8]) -> Moment
-    ensures { λ r. ⌜ r ≡ momentAfter (kind .0) (now (rows .entry)) (now (ordering .entry)) ⌝ }
+pub fn after(kind: Kind, mark: Mark, rows: &[u64], ordering: &[u8]) -> Moment
+    ensures { λ r. ⌜ r ≡ momentAfter (kind .0) mark (now (rows .entry)) (now (ordering .entry)) ⌝ }
 {
+    let mut columns = [0u64; 64];
     let mut labels = [0u64; 64];
     let mut smallest = [64u8; 64];
     let mut largest = [0u8; 64];
-    let checked = checks::judge_refusal(kind, rows, ordering);
+    let checked = checks::judge_refusal(kind, mark, rows, ordering);
     if let Outcome::Refused(_) = checked {
         return no_moment();
     }
+    let n = rows.len();
     let k = ordering.len();
+    steps::columns::columns_of(mark, rows, &mut columns);
     let placed = steps::replay::replay(
         kind,
         rows,
+        &columns[..n],
         ordering,
         k,
         &mut labels,
@@ -60,6 +68,7 @@ pub fn after(kind: Kind, rows: &[u64], ordering: &[u8]) -> Moment
         passes: true,
         placed: placed.set,
         free: placed.free,
+        columns,
         labels,
         smallest,
         largest,

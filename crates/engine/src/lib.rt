@@ -3,6 +3,7 @@ pub mod after;
 
 use searches::Judgement;
 use searches::Kind;
+use searches::Mark;
 use searches::Outcome;
 use searches::Position;
 use searches::Refusal;
@@ -18,20 +19,26 @@ ghost use Rattle.searches.specs.CarryOn.{carryOn};
 ghost use Rattle.searches.specs.Answer.{isPass, judgeAnswer, carryOnAnswer, carryOnOutput, verdictOf, refusalOf};
 ghost use Rattle.engine.specs.Lists.{Judgeable, Extendable};
 
-// Judges an ordering: it passes, or fails with its first violation, or is refused (1 to 6, 8, 9). Alters nothing.
-pub fn judge(kind: Kind, rows: &[u64], ordering: &[u8]) -> Judgement
-    ensures { λ r. ⌜ verdictOf r ≡ judgeAnswer (kind .0) (now (rows .entry)) (now (ordering .entry)) ⌝ }
+// Judges an ordering: it passes, or fails with its first violation, or is refused (1 to 6, 8, 9; 5 for two-way graphs only). Alters nothing.
+pub fn judge(kind: Kind, mark: Mark, rows: &[u64], ordering: &[u8]) -> Judgement
+    ensures { λ r. ⌜ verdictOf r ≡ judgeAnswer (kind .0) mark (now (rows .entry)) (now (ordering .entry)) ⌝ }
 {
-    let checked = checks::judge_refusal(kind, rows, ordering);
+    let checked = checks::judge_refusal(kind, mark, rows, ordering);
     if let Outcome::Refused(refusal) = checked {
         return Judgement::Refused(refusal);
     }
-    verdict(kind, rows, ordering)
+    if let Mark::TwoWay = mark {
+        return verdict(kind, rows, rows, ordering);
+    }
+    let n = rows.len();
+    let mut columns = [0u64; 64];
+    steps::columns::transpose(rows, &mut columns);
+    verdict(kind, rows, &columns[..n], ordering)
 }
 
-// The verdict on an ordering of a graph of at most 64 vertices.
-fn verdict(kind: Kind, rows: &[u64], ordering: &[u8]) -> Judgement
-    requires { ⌜ Judgeable (now rows) (now ordering) (length (now ordering)) ⌝ }
+// The verdict on an ordering of a graph of at most 64 vertices. `columns` are its rows, transposed.
+fn verdict(kind: Kind, rows: &[u64], columns: &[u64], ordering: &[u8]) -> Judgement
+    requires { ⌜ Judgeable (now rows) (now columns) (now ordering) (length (now ordering)) ⌝ }
     ensures { λ r. ⌜
         verdictOf r
         ≡ judgeOf (searchOf (kind .0)) (arcs (now (rows .entry))) (length (now (rows .entry))) (now (ordering .entry)) (length (now (ordering .entry)))
@@ -44,6 +51,7 @@ fn verdict(kind: Kind, rows: &[u64], ordering: &[u8]) -> Judgement
     let placed = steps::replay::replay(
         kind,
         rows,
+        columns,
         ordering,
         k,
         &mut labels,
@@ -57,6 +65,7 @@ fn verdict(kind: Kind, rows: &[u64], ordering: &[u8]) -> Judgement
         return Judgement::Fails(steps::violation::first_violation(
             kind,
             rows,
+            columns,
             ordering,
             k,
             &labels,
@@ -71,22 +80,42 @@ fn verdict(kind: Kind, rows: &[u64], ordering: &[u8]) -> Judgement
 }
 
 // Carries on the first `k` vertices of `output`: at each further position up to the last vertex, of the vertices then offered, the one that
-// stands last in `tie_break` is written. Refused (1 to 6, 10, 7, 8, 9, 12), `output` stays as it was; done, only the positions from `k` up to
-// the number of vertices are written. `rows` and `tie_break` are not altered.
-pub fn carry_on(kind: Kind, rows: &[u64], tie_break: &[u8], output: &mut [u8], k: usize) -> Outcome
-    ensures answer { λ r. ⌜ refusalOf r ≡ carryOnAnswer (kind .0) (now (rows .entry)) (now («tie_break» .entry)) (now (output .entry)) k ⌝ }
-    ensures output { λ r. ⌜ now (output .exit) ≡ carryOnOutput (kind .0) (now (rows .entry)) (now («tie_break» .entry)) (now (output .entry)) k ⌝ }
+// stands last in `tie_break` is written. Refused (1 to 6, 10, 7, 8, 9, 12; 5 for two-way graphs only), `output` stays as it was; done, only the
+// positions from `k` up to the number of vertices are written. `rows` and `tie_break` are not altered.
+pub fn carry_on(
+    kind: Kind,
+    mark: Mark,
+    rows: &[u64],
+    tie_break: &[u8],
+    output: &mut [u8],
+    k: usize,
+) -> Outcome
+    ensures answer { λ r. ⌜ refusalOf r ≡ carryOnAnswer (kind .0) mark (now (rows .entry)) (now («tie_break» .entry)) (now (output .entry)) k ⌝ }
+    ensures output { λ r. ⌜ now (output .exit) ≡ carryOnOutput (kind .0) mark (now (rows .entry)) (now («tie_break» .entry)) (now (output .entry)) k ⌝ }
 {
-    let checked = checks::list_refusal(kind, rows, tie_break, output, k);
+    let checked = checks::list_refusal(kind, mark, rows, tie_break, output, k);
     if let Outcome::Refused(refusal) = checked {
         return Outcome::Refused(refusal);
     }
-    extend(kind, rows, tie_break, output, k)
+    if let Mark::TwoWay = mark {
+        return extend(kind, rows, rows, tie_break, output, k);
+    }
+    let n = rows.len();
+    let mut columns = [0u64; 64];
+    steps::columns::transpose(rows, &mut columns);
+    extend(kind, rows, &columns[..n], tie_break, output, k)
 }
 
-// Carries on a start of distinct vertices, unless it does not pass.
-fn extend(kind: Kind, rows: &[u64], tie_break: &[u8], output: &mut [u8], k: usize) -> Outcome
-    requires { ⌜ Extendable (now rows) (now «tie_break») (now output) k ⌝ }
+// Carries on a start of distinct vertices, unless it does not pass. `columns` are the rows, transposed.
+fn extend(
+    kind: Kind,
+    rows: &[u64],
+    columns: &[u64],
+    tie_break: &[u8],
+    output: &mut [u8],
+    k: usize,
+) -> Outcome
+    requires { ⌜ Extendable (now rows) (now columns) (now «tie_break») (now output) k ⌝ }
     ensures answer { λ r. ⌜ refusalOf r ≡ cond (isPass (judgeOf (searchOf (kind .0)) (arcs (now (rows .entry))) (length (now (rows .entry))) (now (output .entry)) k)) none (some 12) ⌝ }
     ensures output { λ r. ⌜
         now (output .exit)
@@ -101,6 +130,7 @@ fn extend(kind: Kind, rows: &[u64], tie_break: &[u8], output: &mut [u8], k: usiz
     let placed = steps::replay::replay(
         kind,
         rows,
+        columns,
         output,
         k,
         &mut labels,
@@ -116,6 +146,7 @@ fn extend(kind: Kind, rows: &[u64], tie_break: &[u8], output: &mut [u8], k: usiz
     steps::fill::fill(
         kind,
         rows,
+        columns,
         tie_break,
         &mut output[k..],
         k,

@@ -1,11 +1,11 @@
--- What the two entries answer, as one number, for every input.
+-- What the entries answer, as one number, for every input: two for two-way plans, two for one-way plans.
 --   codeOf verdict           0 for a pass, a refusal's number, and a violation packed above all of these            [01: From C]
 --   numberOf answer          0 where nothing was refused, else the refusal's number                                 [01: From C]
 --   planTests kind plan      what is refused before judge and carry-on are asked: numbers and tests                 [01: refusals 1, 2]
 --   readTests kind plan      the same and, last, more than 64 rows, which need not be read: 512 bytes are 64 rows
---   judgeCode kind plan walk                       what `vezhanip_judge` answers                                    [01: From C]
---   carryOnCode kind plan preference output k      what `vezhanip_carry_on` answers                                 [01: From C]
---   carryOnLeaves kind plan preference output k    what the output list then holds
+--   judgeCode kind mark plan walk                     what the entry that judges plans of this mark answers         [01: From C; 02: K4]
+--   carryOnCode kind mark plan preference output k    likewise, the entry that carries on                           [01: From C; 02: K4]
+--   carryOnLeaves kind mark plan preference output k  what the output list then holds
 -- More than 64 rows are refused by judgeAnswer and carryOnAnswer themselves, with 2: no test but the kind's comes before that one.
 use Prim.Native.Nat.{ℕ, _+_, _*_, _%_}
 use mathlib.Core.Bool.{Bool, not}
@@ -15,6 +15,7 @@ use lib.Dec.{ltb, eqb}
 use lib.ListN.{length}
 use Rattle.searches.specs.Violation.{Verdict, passes, fails, refused}
 use Rattle.searches.specs.Answer.{firstRefusal, judgeAnswer, carryOnAnswer, carryOnOutput}
+use Rattle.searches.specs.declared.Mark.{Mark}
 use Rattle.firmware.specs.Plan.{planRows}
 
 unfoldable pub codeOf : Verdict → ℕ
@@ -32,24 +33,24 @@ planTests kind plan = (1, ltb 6 kind) ∷ (2, not (eqb (length plan % 8) 0)) ∷
 unfoldable pub readTests : ℕ → List ℕ → List (ℕ × Bool)
 readTests kind plan = planTests kind plan ++ (2, ltb 512 (length plan)) ∷ []
 
-unfoldable pub judgeCode : ℕ → List ℕ → List ℕ → ℕ
-judgeCode kind plan walk =
+unfoldable pub judgeCode : ℕ → Mark → List ℕ → List ℕ → ℕ
+judgeCode kind mark plan walk =
     elim (firstRefusal (planTests kind plan)) [
-      | none ↦ codeOf (judgeAnswer kind (planRows plan) walk)
+      | none ↦ codeOf (judgeAnswer kind mark (planRows plan) walk)
       | some r ↦ r
     ]
 
-module _ (kind : ℕ) (plan preference output : List ℕ) (k : ℕ) where
+module _ (kind : ℕ) (mark : Mark) (plan preference output : List ℕ) (k : ℕ) where
   unfoldable pub carryOnCode : ℕ
   carryOnCode =
       elim (firstRefusal (planTests kind plan)) [
-        | none ↦ numberOf (carryOnAnswer kind (planRows plan) preference output k)
+        | none ↦ numberOf (carryOnAnswer kind mark (planRows plan) preference output k)
         | some r ↦ r
       ]
 
   unfoldable pub carryOnLeaves : List ℕ
   carryOnLeaves =
       elim (firstRefusal (planTests kind plan)) [
-        | none ↦ carryOnOutput kind (planRows plan) preference output k
+        | none ↦ carryOnOutput kind mark (planRows plan) preference output k
         | some r ↦ output
       ]

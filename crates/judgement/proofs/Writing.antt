@@ -11,6 +11,7 @@ use lib.ListN.{length, length-append}
 use lib.Seq.{sets, length-sets}
 use Rattle.searches.specs.Violation.{Verdict, passes, fails, refused}
 use Rattle.searches.specs.Answer.{judgeAnswer}
+use Rattle.searches.specs.declared.Mark.{Mark}
 use Rattle.fields.specs.Field.{field, fields, line}
 use Rattle.fields.proofs.Writing.{sets-append}
 use Rattle.judgement.specs.Judged.{judgedLine, judgedLines, judgedUnless, judgement}
@@ -40,7 +41,7 @@ module _ (out₀ rows w : List ℕ) where
   judging-room {out} {i} {j} r l long =
       (omega (arith, r .short), omega (arith, r .short, ap length (r .written), length-sets out₀ 0 (judgedLines rows w j)))
 
-  pub judging-next : {out : List ℕ} {i j : ℕ} (out′ : List ℕ) {i′ : ℕ} {v : Verdict} → Judging out₀ rows w out i j → j < 7 → v ≡ judgeAnswer j rows w
+  pub judging-next : {out : List ℕ} {i j : ℕ} (out′ : List ℕ) {i′ : ℕ} {v : Verdict} → Judging out₀ rows w out i j → j < 7 → v ≡ judgeAnswer j Mark.TwoWay rows w
       → out′ ≡ sets out i (judgedLine j v) → i′ ≡ i + length (judgedLine j v) → Judging out₀ rows w out′ i′ (j + 1)
   unfolding judgedLines
   judging-next {out} {i} {j} out′ {i′} {v} r l is at-out at-i =
@@ -52,18 +53,18 @@ module _ (out₀ rows w : List ℕ) where
         short = omega (arith, at-i, r .short, line-short j v);
         place =
             at-i ∙ ap₂ (λ (x : ℕ) (y : Verdict). x + length (judgedLine j y)) (r .place) is
-            ∙ sym (length-append lines (judgedLine j (judgeAnswer j rows w)));
+            ∙ sym (length-append lines (judgedLine j (judgeAnswer j Mark.TwoWay rows w)));
         written =
             at-out ∙ ap₂ (λ (x : List ℕ) (y : Verdict). sets x i (judgedLine j y)) (r .written) is
-            ∙ ap (λ (x : ℕ). sets (sets out₀ 0 lines) x (judgedLine j (judgeAnswer j rows w))) here
-            ∙ sym (sets-append out₀ 0 lines (judgedLine j (judgeAnswer j rows w)));
+            ∙ ap (λ (x : ℕ). sets (sets out₀ 0 lines) x (judgedLine j (judgeAnswer j Mark.TwoWay rows w))) here
+            ∙ sym (sets-append out₀ 0 lines (judgedLine j (judgeAnswer j Mark.TwoWay rows w)));
       })
 
 lines-short : (rows w : List ℕ) (j : ℕ) → length (judgedLines rows w j) ≤ 21 * j
 unfolding judgedLines
 lines-short rows w zero = omega arith
 lines-short rows w (suc j) =
-    omega (arith, length-append (judgedLines rows w j) (judgedLine j (judgeAnswer j rows w)), lines-short rows w j, line-short j (judgeAnswer j rows w))
+    omega (arith, length-append (judgedLines rows w j) (judgedLine j (judgeAnswer j Mark.TwoWay rows w)), lines-short rows w j, line-short j (judgeAnswer j Mark.TwoWay rows w))
 
 pub judgement-short : (b : List ℕ) → length (judgement b) ≤ 147
 unfolding judgement judgedUnless line fields field

@@ -16,6 +16,7 @@ use lib.ListN.{length, take}
 use lib.Seq.{sets}
 use Rattle.searches.specs.Violation.{Verdict, passes, fails, refused}
 use Rattle.searches.specs.Answer.{judgeAnswer}
+use Rattle.searches.specs.declared.Mark.{Mark}
 use Rattle.fields.specs.Field.{line}
 use Rattle.sheet.specs.Sheet.{rowsOf, walkOf, readAnswer}
 
@@ -27,7 +28,7 @@ judgedLine kind (refused r) = line (r ∷ [])
 
 unfoldable pub judgedLines : List ℕ → List ℕ → ℕ → List ℕ
 judgedLines rows w zero = []
-judgedLines rows w (suc j) = judgedLines rows w j ++ judgedLine j (judgeAnswer j rows w)
+judgedLines rows w (suc j) = judgedLines rows w j ++ judgedLine j (judgeAnswer j Mark.TwoWay rows w)
 
 unfoldable pub judgedUnless : Option ℕ → List ℕ → List ℕ
 judgedUnless none b = judgedLines (rowsOf b) (walkOf b) 7

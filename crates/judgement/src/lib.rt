@@ -2,6 +2,7 @@
 use fields::write;
 use searches::Judgement;
 use searches::Kind;
+use searches::Mark;
 use searches::Outcome;
 use sheet::read::read;
 ghost use mathlib.Core.Path.{_≡_};
@@ -46,7 +47,7 @@ fn judged_lines(output: &mut [u8], rows: &[u64], ordering: &[u8]) -> usize
 {
     let mut at = 0;
     for kind in 0u8..7 {
-        let judgement = engine::judge(Kind(kind), rows, ordering);
+        let judgement = engine::judge(Kind(kind), Mark::TwoWay, rows, ordering);
         at = judged_line(output, at, kind, judgement);
     }
     at

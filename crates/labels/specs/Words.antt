@@ -1,11 +1,13 @@
 -- What the code computes on labels that are kept as words. `labels` is the list of the 64 words, `smallest` and `largest` are the lists of the
--- running values beside them, `free` is the set of the unplaced vertices.
---   tally rows placed v           how many of `placed` are in v's row: ones counted in row AND placed mask          [01: the form for MCS]
---   Tallied rows labels placed    that is for every vertex how many positions its label holds
+-- running values beside them, `free` is the set of the unplaced vertices. `columns` are the graph's rows, transposed: column v holds the vertices
+-- that lead to v.
+--   tally columns placed v        how many of `placed` are in v's column, its row in the transposed graph: ones counted in row AND placed
+--                                 mask                                                                              [01: the form for MCS]
+--   Tallied columns labels placed   that is for every vertex how many positions its label holds
 --   smallestByte x, largestByte x   how a running value is kept: the smallest position as it is, 64 where there is none; one more than the
 --                                 largest, 0 where there is none
 --   Tracked labels smallest largest   for every vertex the running values are the smallest and the largest position in its label
---   Consistent rows labels smallest largest placed   Tallied and Tracked: what is kept beside the labels agrees with them
+--   Consistent columns labels smallest largest placed   Tallied and Tracked: what is kept beside the labels agrees with them
 --   countIn s label               how many positions a label holds, for MCS; 0 for the other searches, which do not count
 --   profileOf s label             what a comparison looks at, of a vertex with this label
 --   aheadIn s c b                 label c is ahead of label b
@@ -39,10 +41,10 @@ use Rattle.searches.specs.Violation.{condition, meets}
 use Rattle.labels.specs.declared.profile.Profile.{Profile}
 
 unfoldable pub tally : List ℕ → ℕ → ℕ → ℕ
-tally rows placed v = countBelow 64 (member (common (getD rows v 0) placed))
+tally columns placed v = countBelow 64 (member (common (getD columns v 0) placed))
 
 abbrev pub Tallied : List ℕ → List ℕ → ℕ → Type 0
-Tallied rows labels placed = (v : ℕ) → v < 64 → tally rows placed v ≡ countBelow 64 (member (getD labels v 0))
+Tallied columns labels placed = (v : ℕ) → v < 64 → tally columns placed v ≡ countBelow 64 (member (getD labels v 0))
 
 unfoldable pub smallestByte : Option ℕ → ℕ
 smallestByte none = 64
@@ -57,8 +59,8 @@ Tracked labels smallest largest =
     (v : ℕ) → v < 64
     → (getD smallest v 0 ≡ smallestByte (smallestIn 64 (member (getD labels v 0)))) × (getD largest v 0 ≡ largestByte (largestIn 64 (member (getD labels v 0))))
 
-pub record Consistent (rows labels smallest largest : List ℕ) (placed : ℕ) : Type 0 where
-  pub tallied : Tallied rows labels placed
+pub record Consistent (columns labels smallest largest : List ℕ) (placed : ℕ) : Type 0 where
+  pub tallied : Tallied columns labels placed
   pub tracked : Tracked labels smallest largest
 
 unfoldable pub countIn : Search → ℕ → ℕ

@@ -11,7 +11,7 @@ ghost use Rattle.labels.specs.Words.{Consistent, Champion, Covers, openI
 // A vertex of `free`, which is not empty, that no other vertex of it is ahead of. Only one that is reached is ahead of another.
 fn champion(
     kind: Kind,
-    rows: &[u64],
+    columns: &[u64],
     labels: &[u64; 64],
     smallest: &[u8; 64],
     largest: &[u8; 64],
@@ -19,7 +19,7 @@ fn champion(
     free: u64,
     reached: u64,
 ) -> Vertex
-    requires { ⌜ (0 < free) × Covers reached (now labels) × Consistent (now rows) (now labels) (now smallest) (now largest) placed ⌝ }
+    requires { ⌜ (0 < free) × Covers reached (now labels) × Consistent (now columns) (now labels) (now smallest) (now largest) placed ⌝ }
     ensures { λ r. ⌜ Champion (searchOf (kind .0)) (now (labels .entry)) free (r .0) ⌝ }
 {
     let front = bitset::common(free, reached);
@@ -28,11 +28,11 @@ fn champion(
         return Vertex(first);
     }
     let mut best = Vertex(bitset::smallest(front) as u8);
-    let mut lead = profile_of(kind, rows, labels, smallest, largest, placed, best);
+    let mut lead = profile_of(kind, columns, labels, smallest, largest, placed, best);
     let mut rest = bitset::without_smallest(front);
     while rest != 0 {
         let u = Vertex(bitset::smallest(rest) as u8);
-        let next = profile_of(kind, rows, labels, smallest, largest, placed, u);
+        let next = profile_of(kind, columns, labels, smallest, largest, placed, u);
         if crate::is_ahead(kind, next, lead) {
             best = u;
             lead = next;
@@ -45,7 +45,7 @@ fn champion(
 // Whether `v` is offered. `best` is a champion: it is offered itself, and except in MNS so is every vertex that it is not ahead of.
 fn is_open(
     kind: Kind,
-    rows: &[u64],
+    columns: &[u64],
     labels: &[u64; 64],
     smallest: &[u8; 64],
     largest: &[u8; 64],
@@ -55,7 +55,7 @@ fn is_open(
     best: Vertex,
     v: Vertex,
 ) -> bool
-    requires { ⌜ Champion (searchOf (kind .0)) (now labels) free (best .0) × Covers reached (now labels) × Consistent (now rows) (now labels) (now smallest) (now largest) placed ⌝ }
+    requires { ⌜ Champion (searchOf (kind .0)) (now labels) free (best .0) × Covers reached (now labels) × Consistent (now columns) (now labels) (now smallest) (now largest) placed ⌝ }
     ensures { λ r. ⌜ r ≡ openIn (searchOf (kind .0)) (now (labels .entry)) free (v .0) ⌝ }
 {
     let number = v.0 as usize;
@@ -66,10 +66,10 @@ fn is_open(
     if number == leader {
         return true;
     }
-    let mine = profile_of(kind, rows, labels, smallest, largest, placed, v);
+    let mine = profile_of(kind, columns, labels, smallest, largest, placed, v);
     if crate::is_ahead(
         kind,
-        profile_of(kind, rows, labels, smallest, largest, placed, best),
+        profile_of(kind, columns, labels, smallest, largest, placed, best),
         mine,
     ) {
         return false;
@@ -79,7 +79,7 @@ fn is_open(
     }
     !crate::is_beaten(
         kind,
-        rows,
+        columns,
         labels,
         smallest,
         largest,
@@ -104,7 +104,7 @@ fn entry(list: &[u8], i: usize) -> Vertex
 // vertex whose label is not empty.
 pub fn choose(
     kind: Kind,
-    rows: &[u64],
+    columns: &[u64],
     labels: &[u64; 64],
     smallest: &[u8; 64],
     largest: &[u8; 64],
@@ -113,13 +113,22 @@ pub fn choose(
     reached: u64,
     tie_break: &[u8],
 ) -> Vertex
-    requires { ⌜ Covers reached (now labels) × Consistent (now rows) (now labels) (now smallest) (now largest) placed ⌝ }
+    requires { ⌜ Covers reached (now labels) × Consistent (now columns) (now labels) (now smallest) (now largest) placed ⌝ }
     ensures { λ r. ⌜ r .0 ≡ chosenIn (searchOf (kind .0)) (now (labels .entry)) free (now («tie_break» .entry)) ⌝ }
 {
     if free == 0 {
         return entry(tie_break, 0);
     }
-    let best = champion(kind, rows, labels, smallest, largest, placed, free, reached);
+    let best = champion(
+        kind,
+        columns,
+        labels,
+        smallest,
+        largest,
+        placed,
+        free,
+        reached,
+    );
     let length = tie_break.len();
     let mut passed = 0;
     while passed < length {
@@ -127,7 +136,7 @@ pub fn choose(
         let v = entry(tie_break, length - passed);
         if is_open(
             kind,
-            rows,
+            columns,
             labels,
             smallest,
             largest,

@@ -115,7 +115,7 @@ pub fn spread(
 // Whether a vertex of `free` is ahead of one of profile `mine`.
 pub fn is_beaten(
     kind: Kind,
-    rows: &[u64],
+    columns: &[u64],
     labels: &[u64; 64],
     smallest: &[u8; 64],
     largest: &[u8; 64],
@@ -123,7 +123,7 @@ pub fn is_beaten(
     free: u64,
     mine: Profile,
 ) -> bool
-    requires { ⌜ (mine ≡ profileOf (searchOf (kind .0)) (mine .label)) × Consistent (now rows) (now labels) (now smallest) (now largest) placed ⌝ }
+    requires { ⌜ (mine ≡ profileOf (searchOf (kind .0)) (mine .label)) × Consistent (now columns) (now labels) (now smallest) (now largest) placed ⌝ }
     ensures { λ r. ⌜ r ≡ beatenIn (searchOf (kind .0)) (now (labels .entry)) free (mine .label) ⌝ }
 {
     let mut rest = free;
@@ -131,7 +131,7 @@ pub fn is_beaten(
         let u = bitset::smallest(rest) as u8;
         if is_ahead(
             kind,
-            profile_of(kind, rows, labels, smallest, largest, placed, Vertex(u)),
+            profile_of(kind, columns, labels, smallest, largest, placed, Vertex(u)),
             mine,
         ) {
             return true;

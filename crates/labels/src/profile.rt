@@ -16,26 +16,26 @@ pub struct Profile {
     pub largest: u8,
 }
 
-// How many ones are in the row of `vertex` and in `placed`. Where links go both ways, these are the placed vertices that lead to it.
-fn count(rows: &[u64], placed: u64, vertex: Vertex) -> usize
-    ensures { λ r. ⌜ r ≡ tally (now (rows .entry)) placed (vertex .0) ⌝ }
+// How many ones are in row AND placed mask. The row is that of the transposed graph, the column of `vertex`: the vertices that lead to it.
+fn count(columns: &[u64], placed: u64, vertex: Vertex) -> usize
+    ensures { λ r. ⌜ r ≡ tally (now (columns .entry)) placed (vertex .0) ⌝ }
 {
     let v = vertex.0 as usize;
-    let row = if v < rows.len() { rows[v] } else { 0 };
+    let row = if v < columns.len() { columns[v] } else { 0 };
     bitset::size(bitset::common(row, placed))
 }
 
-// What is compared of `vertex`. `labels`, the running values `smallest` and `largest`, and the set `placed` are those of one moment.
+// What is compared of `vertex`. `columns` are the graph's rows, transposed; `labels`, the running values `smallest` and `largest`, and the set `placed` are those of one moment.
 pub fn profile_of(
     kind: Kind,
-    rows: &[u64],
+    columns: &[u64],
     labels: &[u64; 64],
     smallest: &[u8; 64],
     largest: &[u8; 64],
     placed: u64,
     vertex: Vertex,
 ) -> Profile
-    requires { ⌜ (vertex .0 < 64) × Consistent (now rows) (now labels) (now smallest) (now largest) placed ⌝ }
+    requires { ⌜ (vertex .0 < 64) × Consistent (now columns) (now labels) (now smallest) (now largest) placed ⌝ }
     ensures { λ r. ⌜ r ≡ profileOf (searchOf (kind .0)) (getD (now (labels .entry)) (vertex .0) 0) ⌝ }
 {
     let v = vertex.0 as usize;
@@ -43,7 +43,7 @@ pub fn profile_of(
     let first = smallest[v];
     let past = largest[v];
     let counted = if kind.0 == Kind::MCS.0 {
-        count(rows, placed, vertex)
+        count(columns, placed, vertex)
     } else {
         0
     };

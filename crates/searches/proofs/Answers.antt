@@ -24,6 +24,7 @@ use Rattle.searches.specs.Violation.{Verdict, passes, fails, refused, ju
 use Rattle.searches.specs.CarryOn.{carryOn}
 use Rattle.searches.specs.Answer.{vertexOutside, repeated, isPass, openTests, judgeTests, listTests, carryOnTests, Accepts, Refuses}
 use Rattle.searches.specs.Answer.{judgeAnswer, carryOnOutput}
+use Rattle.searches.specs.declared.Mark.{Mark}
 use Rattle.searches.proofs.Ordering.{take-agree, agree-sym, ordering-fits, ordering-agree}
 use Rattle.searches.proofs.Judge.{Judged, judge-says}
 use Rattle.searches.proofs.Passing.{judge-take}
@@ -57,69 +58,69 @@ pub none-repeated : {n : ℕ} {w : List ℕ} {k : ℕ} → IsOrdering n w k → 
 none-repeated {n} {w} {k} o t = let x = repeated-out w k t in o .distinct (x .0) (x .1) (x .2) (x .3) (x .4)
 
 -- no more than 64 rows are let through
-pub valid-small : (kind : ℕ) (rows : List ℕ) → Accepts (openTests kind rows) → length rows ≤ 64
+pub valid-small : (kind : ℕ) (mark : Mark) (rows : List ℕ) → Accepts (openTests kind mark rows) → length rows ≤ 64
 unfolding openTests
-valid-small kind rows a = nltb→le 64 (length rows) (not-T (ltb 64 (length rows)) (a .1 .0))
+valid-small kind mark rows a = nltb→le 64 (length rows) (not-T (ltb 64 (length rows)) (a .1 .0))
 
 -- nothing but the kind byte itself is refused for one kind and not for another
-pub valid-any-kind : (kind kind′ : ℕ) (rows : List ℕ) → kind′ < 7 → Accepts (openTests kind rows) → Accepts (openTests kind′ rows)
+pub valid-any-kind : (kind kind′ : ℕ) (mark : Mark) (rows : List ℕ) → kind′ < 7 → Accepts (openTests kind mark rows) → Accepts (openTests kind′ mark rows)
 unfolding openTests
-valid-any-kind kind kind′ rows known a = (λ t. omega (arith, ltb→lt 6 kind′ t), a .1)
+valid-any-kind kind kind′ mark rows known a = (λ t. omega (arith, ltb→lt 6 kind′ t), a .1)
 
 -- ---- judge
 
-module _ (kind : ℕ) (rows w : List ℕ) where
-  pub ordering-accepted : Accepts (openTests kind rows) → IsOrdering (length rows) w (length w) → Accepts (judgeTests kind rows w)
+module _ (kind : ℕ) (mark : Mark) (rows w : List ℕ) where
+  pub ordering-accepted : Accepts (openTests kind mark rows) → IsOrdering (length rows) w (length w) → Accepts (judgeTests kind mark rows w)
   unfolding judgeTests
   ordering-accepted a o =
-      both-accept (openTests kind rows) _ a
+      both-accept (openTests kind mark rows) _ a
       (λ t. let l = ltb→lt (length rows) (length w) t in let h = ordering-fits (length rows) o in omega arith, (all-inside o, (none-repeated o, tt)))
 
-  pub accepted-ordering : Accepts (judgeTests kind rows w) → Accepts (openTests kind rows) × IsOrdering (length rows) w (length w)
+  pub accepted-ordering : Accepts (judgeTests kind mark rows w) → Accepts (openTests kind mark rows) × IsOrdering (length rows) w (length w)
   unfolding judgeTests
   accepted-ordering a =
-      let x = accepts-both (openTests kind rows) _ a in
+      let x = accepts-both (openTests kind mark rows) _ a in
       (x .0, clear (length rows) w (length w) (omega arith) (x .1 .1 .0) (x .1 .1 .1 .0))
 
-  pub judge-accepted : Accepts (judgeTests kind rows w) → judgeAnswer kind rows w ≡ judge (searchOf kind) (arcs rows) (length rows) w (length w)
+  pub judge-accepted : Accepts (judgeTests kind mark rows w) → judgeAnswer kind mark rows w ≡ judge (searchOf kind) (arcs rows) (length rows) w (length w)
   unfolding judgeAnswer
-  judge-accepted a = rw (accepts-none (judgeTests kind rows w) a, judgeAnswer)
+  judge-accepted a = rw (accepts-none (judgeTests kind mark rows w) a, judgeAnswer)
 
-  pub judge-refused : (r : ℕ) → Refuses r (judgeTests kind rows w) → judgeAnswer kind rows w ≡ refused r
+  pub judge-refused : (r : ℕ) → Refuses r (judgeTests kind mark rows w) → judgeAnswer kind mark rows w ≡ refused r
   unfolding judgeAnswer
-  judge-refused r x = rw (refuses-first (judgeTests kind rows w) r x, judgeAnswer)
+  judge-refused r x = rw (refuses-first (judgeTests kind mark rows w) r x, judgeAnswer)
 
   -- an ordering is passed or failed, and never refused
-  judge-decides : Accepts (judgeTests kind rows w) → (r : ℕ) → judge (searchOf kind) (arcs rows) (length rows) w (length w) ≡ refused r → ⊥
+  judge-decides : Accepts (judgeTests kind mark rows w) → (r : ℕ) → judge (searchOf kind) (arcs rows) (length rows) w (length w) ≡ refused r → ⊥
   judge-decides a r e =
       subst (λ (v : Verdict). Judged (searchOf kind) (arcs rows) (length rows) w (length w) v) e
       (judge-says (searchOf kind) (arcs rows) (length rows) w (length w) (accepted-ordering a .1))
 
-  pub refused-judge : (r : ℕ) → judgeAnswer kind rows w ≡ refused r → Refuses r (judgeTests kind rows w)
-  refused-judge r e = go (accepts-or-refuses (judgeTests kind rows w))
+  pub refused-judge : (r : ℕ) → judgeAnswer kind mark rows w ≡ refused r → Refuses r (judgeTests kind mark rows w)
+  refused-judge r e = go (accepts-or-refuses (judgeTests kind mark rows w))
     where
-      go : Accepts (judgeTests kind rows w) ⊎ ((q : ℕ) × Refuses q (judgeTests kind rows w)) → Refuses r (judgeTests kind rows w)
+      go : Accepts (judgeTests kind mark rows w) ⊎ ((q : ℕ) × Refuses q (judgeTests kind mark rows w)) → Refuses r (judgeTests kind mark rows w)
       go (inl a) = absurd (judge-decides a r (sym (judge-accepted a) ∙ e))
-      go (inr x) = let same : x .0 ≡ r = cc (judge-refused (x .0) (x .1)) in subst (λ (q : ℕ). Refuses q (judgeTests kind rows w)) same (x .1)
+      go (inr x) = let same : x .0 ≡ r = cc (judge-refused (x .0) (x .1)) in subst (λ (q : ℕ). Refuses q (judgeTests kind mark rows w)) same (x .1)
 
-  pub passes-accepts : judgeAnswer kind rows w ≡ passes → Accepts (judgeTests kind rows w)
+  pub passes-accepts : judgeAnswer kind mark rows w ≡ passes → Accepts (judgeTests kind mark rows w)
   unfolding isPass
-  passes-accepts e = go (accepts-or-refuses (judgeTests kind rows w))
+  passes-accepts e = go (accepts-or-refuses (judgeTests kind mark rows w))
     where
-      go : Accepts (judgeTests kind rows w) ⊎ ((q : ℕ) × Refuses q (judgeTests kind rows w)) → Accepts (judgeTests kind rows w)
+      go : Accepts (judgeTests kind mark rows w) ⊎ ((q : ℕ) × Refuses q (judgeTests kind mark rows w)) → Accepts (judgeTests kind mark rows w)
       go (inl a) = a
       go (inr x) = absurd (subst (λ (v : Verdict). T (isPass v)) (sym e ∙ judge-refused (x .0) (x .1)) tt)
 
 -- the answer on a prefix, as a list of its own, is the verdict on so many positions
-pub prefix-judged : (kind : ℕ) (rows w : List ℕ) (k : ℕ) → Accepts (openTests kind rows) → IsOrdering (length rows) w k
-    → judgeAnswer kind rows (take k w) ≡ judge (searchOf kind) (arcs rows) (length rows) w k
-prefix-judged kind rows w k a o =
+pub prefix-judged : (kind : ℕ) (mark : Mark) (rows w : List ℕ) (k : ℕ) → Accepts (openTests kind mark rows) → IsOrdering (length rows) w k
+    → judgeAnswer kind mark rows (take k w) ≡ judge (searchOf kind) (arcs rows) (length rows) w k
+prefix-judged kind mark rows w k a o =
     let len : length (take k w) ≡ k = length-take-le k w (o .long) in
     let part : IsOrdering (length rows) (take k w) (length (take k w)) =
     subst (λ (m : ℕ). IsOrdering (length rows) (take k w) m) (sym len)
     (ordering-agree (length rows) (take k w) (omega arith) (agree-sym k (take k w) w (take-agree k w)) o)
     in
-    judge-accepted kind rows (take k w) (ordering-accepted kind rows (take k w) a part)
+    judge-accepted kind mark rows (take k w) (ordering-accepted kind mark rows (take k w) a part)
     ∙ ap (λ (m : ℕ). judge (searchOf kind) (arcs rows) (length rows) (take k w) m) len
     ∙ judge-take (searchOf kind) (arcs rows) (length rows) w k
 
@@ -136,27 +137,27 @@ isPass-out (fails a b c) t = absurd t
 isPass-out (refused r) t = absurd t
 
 -- what carry-on lets through
-pub record Start (kind : ℕ) (rows t out : List ℕ) (k : ℕ) : Type 0 where
-  pub valid : Accepts (openTests kind rows)
+pub record Start (kind : ℕ) (mark : Mark) (rows t out : List ℕ) (k : ℕ) : Type 0 where
+  pub valid : Accepts (openTests kind mark rows)
   pub room : length rows ≤ length out
   pub tie-break : IsFullOrdering (length rows) t
   pub start : IsOrdering (length rows) out k
   pub passing : judge (searchOf kind) (arcs rows) (length rows) out k ≡ passes
 
-module _ (kind : ℕ) (rows t out : List ℕ) (k : ℕ) where
+module _ (kind : ℕ) (mark : Mark) (rows t out : List ℕ) (k : ℕ) where
   n : ℕ
   n = length rows
 
   verdict : Verdict
   verdict = judge (searchOf kind) (arcs rows) n out k
 
-  pub start-accepted : Start kind rows t out k → Accepts (carryOnTests kind rows t out k)
+  pub start-accepted : Start kind mark rows t out k → Accepts (carryOnTests kind mark rows t out k)
   unfolding carryOnTests listTests n verdict
   start-accepted x =
       let fits = ordering-fits n (x .start) in
       let full : length t ≡ n = x .tie-break .full in
-      both-accept (listTests kind rows t out k) _
-      (both-accept (openTests kind rows) _ (x .valid) (
+      both-accept (listTests kind mark rows t out k) _
+      (both-accept (openTests kind mark rows) _ (x .valid) (
         λ u. omega (arith, ltb→lt n k u),
         (
           λ u. let r : n ≤ length out = x .room in omega (arith, ltb→lt (length out) n u),
@@ -173,15 +174,15 @@ module _ (kind : ℕ) (rows t out : List ℕ) (k : ℕ) where
 
   -- what the tests on the lists let through
   pub record Lists : Type 0 where
-    pub valid : Accepts (openTests kind rows)
+    pub valid : Accepts (openTests kind mark rows)
     pub room : length rows ≤ length out
     pub tie-break : IsFullOrdering (length rows) t
     pub start : IsOrdering (length rows) out k
 
-  pub accepted-lists : Accepts (listTests kind rows t out k) → Lists
+  pub accepted-lists : Accepts (listTests kind mark rows t out k) → Lists
   unfolding listTests n
   accepted-lists a =
-      let x = accepts-both (openTests kind rows) _ a in
+      let x = accepts-both (openTests kind mark rows) _ a in
       let fits : k ≤ n = nltb→le n k (not-T (ltb n k) (x .1 .0)) in
       let room : n ≤ length out = nltb→le (length out) n (not-T (ltb (length out) n) (x .1 .1 .0)) in
       let full : length t ≡ n = eqb→eq (length t) n (not-not (eqb (length t) n) (not-T (not (eqb (length t) n)) (x .1 .1 .1 .0))) in
@@ -197,10 +198,10 @@ module _ (kind : ℕ) (rows t out : List ℕ) (k : ℕ) where
         start = clear n out k (omega arith) (λ u. inside (or-inl (vertexOutside n out k) (vertexOutside n t n) u)) (λ u. once (or-inl (repeated out k) (repeated t n) u));
       }
 
-  pub accepted-start : Accepts (carryOnTests kind rows t out k) → Start kind rows t out k
+  pub accepted-start : Accepts (carryOnTests kind mark rows t out k) → Start kind mark rows t out k
   unfolding carryOnTests n verdict
   accepted-start a =
-      let x = accepts-both (listTests kind rows t out k) _ a in
+      let x = accepts-both (listTests kind mark rows t out k) _ a in
       let l = accepted-lists (x .0) in
       record {
         valid = l .valid;
@@ -210,11 +211,11 @@ module _ (kind : ℕ) (rows t out : List ℕ) (k : ℕ) where
         passing = isPass-out verdict (not-not (isPass verdict) (not-T (not (isPass verdict)) (x .1 .0)));
       }
 
-  pub carryOn-done : Accepts (carryOnTests kind rows t out k)
-      → carryOnOutput kind rows t out k ≡ carryOn (searchOf kind) (arcs rows) (length rows) t out k ++ drop (length rows) out
+  pub carryOn-done : Accepts (carryOnTests kind mark rows t out k)
+      → carryOnOutput kind mark rows t out k ≡ carryOn (searchOf kind) (arcs rows) (length rows) t out k ++ drop (length rows) out
   unfolding carryOnOutput
-  carryOn-done a = rw (accepts-none (carryOnTests kind rows t out k) a, carryOnOutput)
+  carryOn-done a = rw (accepts-none (carryOnTests kind mark rows t out k) a, carryOnOutput)
 
-  pub carryOn-kept : (r : ℕ) → Refuses r (carryOnTests kind rows t out k) → carryOnOutput kind rows t out k ≡ out
+  pub carryOn-kept : (r : ℕ) → Refuses r (carryOnTests kind mark rows t out k) → carryOnOutput kind mark rows t out k ≡ out
   unfolding carryOnOutput
-  carryOn-kept r x = rw (refuses-first (carryOnTests kind rows t out k) r x, carryOnOutput)
+  carryOn-kept r x = rw (refuses-first (carryOnTests kind mark rows t out k) r x, carryOnOutput)

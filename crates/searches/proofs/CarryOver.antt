@@ -29,7 +29,8 @@ use Rattle.searches.specs.Label.{label}
 use Rattle.searches.specs.Run.{offered}
 use Rattle.searches.specs.Violation.{condition, meets, violates}
 use Rattle.searches.specs.Violation.{Verdict, passes, fails, refused, Fails, third, isLast, isFirst, isMiddle, judge}
-use Rattle.searches.specs.Answer.{bitOutside, selfLoop, oneWay, vertexOutside, repeated, isPass, openTests, judgeTests, firstRefusal, Accepts, judgeAnswer}
+use Rattle.searches.specs.Answer.{bitOutside, selfLoop, oneWay, isTwoWay, vertexOutside, repeated, isPass, openTests, judgeTests, firstRefusal, Accepts, judgeAnswer}
+use Rattle.searches.specs.declared.Mark.{Mark}
 use Rattle.searches.specs.CarryOver.{further, carriesTo, oneOf, carries}
 use Rattle.searches.proofs.AheadToo.{AheadToo, ahead-generic, ahead-lexBfs-bfs, ahead-lexBfs-mns, ahead-lexDfs-dfs, ahead-lexDfs-mns, ahead-mcs-mns}
 use Rattle.searches.proofs.Ordering.{upTo}
@@ -63,10 +64,10 @@ kind-below lexDfs = omega arith
 kind-below mns = omega arith
 kind-below mcs = omega arith
 
-judged-as : (s : Search) (rows w : List ℕ) → Accepts (openTests (kindOf s) rows) → IsOrdering (length rows) w (length w)
-    → judgeAnswer (kindOf s) rows w ≡ judge s (arcs rows) (length rows) w (length w)
-judged-as s rows w a o =
-    judge-accepted (kindOf s) rows w (ordering-accepted (kindOf s) rows w a o)
+judged-as : (s : Search) (mark : Mark) (rows w : List ℕ) → Accepts (openTests (kindOf s) mark rows) → IsOrdering (length rows) w (length w)
+    → judgeAnswer (kindOf s) mark rows w ≡ judge s (arcs rows) (length rows) w (length w)
+judged-as s mark rows w a o =
+    judge-accepted (kindOf s) mark rows w (ordering-accepted (kindOf s) mark rows w a o)
     ∙ ap (λ (x : Search). judge x (arcs rows) (length rows) w (length w)) (search-of-kind s)
 
 -- ---- the pairs of the table
@@ -111,16 +112,16 @@ module _ (s s′ : Search) (pair : T (carries s s′)) where
 
 module _ (kind kind′ : ℕ) (pair : T (carries (searchOf kind) (searchOf kind′))) (known : kind′ < 7) where
   -- 02: K1, the same as the calls answer: for every plan, a walk that judge passes for the first kind it passes for the second,
-  pub carries-over-answers : (rows w : List ℕ) → judgeAnswer kind rows w ≡ passes → judgeAnswer kind′ rows w ≡ passes
-  carries-over-answers rows w p =
-      let a = passes-accepts kind rows w p in
-      let x = accepted-ordering kind rows w a in
-      judge-accepted kind′ rows w (ordering-accepted kind′ rows w (valid-any-kind kind kind′ rows known (x .0)) (x .1))
-      ∙ carries-over (searchOf kind) (searchOf kind′) pair (arcs rows) (length rows) w (length w) (x .1) (sym (judge-accepted kind rows w a) ∙ p)
+  pub carries-over-answers : (mark : Mark) (rows w : List ℕ) → judgeAnswer kind mark rows w ≡ passes → judgeAnswer kind′ mark rows w ≡ passes
+  carries-over-answers mark rows w p =
+      let a = passes-accepts kind mark rows w p in
+      let x = accepted-ordering kind mark rows w a in
+      judge-accepted kind′ mark rows w (ordering-accepted kind′ mark rows w (valid-any-kind kind kind′ mark rows known (x .0)) (x .1))
+      ∙ carries-over (searchOf kind) (searchOf kind′) pair (arcs rows) (length rows) w (length w) (x .1) (sym (judge-accepted kind mark rows w a) ∙ p)
 
   -- and so every part of a walk
-  pub carries-over-parts : (rows w : List ℕ) (k : ℕ) → judgeAnswer kind rows (take k w) ≡ passes → judgeAnswer kind′ rows (take k w) ≡ passes
-  carries-over-parts rows w k = carries-over-answers rows (take k w)
+  pub carries-over-parts : (mark : Mark) (rows w : List ℕ) (k : ℕ) → judgeAnswer kind mark rows (take k w) ≡ passes → judgeAnswer kind′ mark rows (take k w) ≡ passes
+  carries-over-parts mark rows w k = carries-over-answers mark rows (take k w)
 
 -- ---- the other pairs
 
@@ -201,46 +202,47 @@ isFail-out passes t = absurd t
 isFail-out (fails a b c) t = (a, b, c, refl)
 isFail-out (refused r) t = absurd t
 
-verdict : Search → Witness → Verdict
-verdict s x = judgeAnswer (kindOf s) (x .plan) (x .walk)
+verdict : Mark → Search → Witness → Verdict
+verdict mark s x = judgeAnswer (kindOf s) mark (x .plan) (x .walk)
 
-abbrev Right : Row → Type 0
-Right (row s s′ x) = (verdict s x ≡ passes) × Fails (verdict s′ x)
+abbrev Right : Mark → Row → Type 0
+Right mark (row s s′ x) = (verdict mark s x ≡ passes) × Fails (verdict mark s′ x)
 
-right : List Row → Bool
-right [] = true
-right (row s s′ x ∷ rs) = isPass (verdict s x) && isFail (verdict s′ x) && right rs
+right : Mark → List Row → Bool
+right mark [] = true
+right mark (row s s′ x ∷ rs) = isPass (verdict mark s x) && isFail (verdict mark s′ x) && right mark rs
 
-right-out : (rs : List Row) → T (right rs) → Each Right rs
+right-out : (mark : Mark) (rs : List Row) → T (right mark rs) → Each (Right mark) rs
 unfolding right
-right-out [] t = tt
-right-out (row s s′ x ∷ rs) t =
-    let both = and-out (isPass (verdict s x) && isFail (verdict s′ x)) (right rs) t in
-    let here = and-out (isPass (verdict s x)) (isFail (verdict s′ x)) (both .0) in
-    ((isPass-out (verdict s x) (here .0), isFail-out (verdict s′ x) (here .1)), right-out rs (both .1))
+right-out mark [] t = tt
+right-out mark (row s s′ x ∷ rs) t =
+    let both = and-out (isPass (verdict mark s x) && isFail (verdict mark s′ x)) (right mark rs) t in
+    let here = and-out (isPass (verdict mark s x)) (isFail (verdict mark s′ x)) (both .0) in
+    ((isPass-out (verdict mark s x) (here .0), isFail-out (verdict mark s′ x) (here .1)), right-out mark rs (both .1))
 
--- 02: K1, in each row the walk passes the first search and fails the second
-rows-right : Each Right otherPairs
+-- 02: K1, in each row the walk passes the first search and fails the second; the plans have every link both ways, so they are valid under either mark
+rows-right : (mark : Mark) → Each (Right mark) otherPairs
 unfolding right verdict otherPairs not-bfs not-dfs only-bfs only-dfs lexBfs-not-mcs lexDfs-not-mcs isFail rowsOf rowOf P upTo
     anyBelow firstBelow countBelow member searchOf kindOf arcs placed label condition meets violates
-    third isLast isFirst isMiddle judge bitOutside selfLoop oneWay vertexOutside repeated isPass openTests judgeTests firstRefusal judgeAnswer
-rows-right = right-out otherPairs tt
+    third isLast isFirst isMiddle judge bitOutside selfLoop oneWay isTwoWay vertexOutside repeated isPass openTests judgeTests firstRefusal judgeAnswer
+rows-right Mark.TwoWay = right-out Mark.TwoWay otherPairs tt
+rows-right Mark.OneWay = right-out Mark.OneWay otherPairs tt
 
 -- ---- every pair is in the table, or has a row
 
 -- a valid plan, and a walk of it that passes s and fails s′
-pub record ToldApart (s s′ : Search) : Type 0 where
+pub record ToldApart (mark : Mark) (s s′ : Search) : Type 0 where
   pub plan : List ℕ
   pub walk : List ℕ
-  pub valid : Accepts (openTests (kindOf s) plan)
+  pub valid : Accepts (openTests (kindOf s) mark plan)
   pub ordering : IsOrdering (length plan) walk (length walk)
-  pub passing : judgeAnswer (kindOf s) plan walk ≡ passes
-  pub failing : Fails (judgeAnswer (kindOf s′) plan walk)
+  pub passing : judgeAnswer (kindOf s) mark plan walk ≡ passes
+  pub failing : Fails (judgeAnswer (kindOf s′) mark plan walk)
 
-told-apart : (s s′ : Search) (x : Witness) → Right (row s s′ x) → ToldApart s s′
+told-apart : (mark : Mark) (s s′ : Search) (x : Witness) → Right mark (row s s′ x) → ToldApart mark s s′
 unfolding verdict
-told-apart s s′ x right =
-    let o = accepted-ordering (kindOf s) (x .plan) (x .walk) (passes-accepts (kindOf s) (x .plan) (x .walk) (right .0)) in
+told-apart mark s s′ x right =
+    let o = accepted-ordering (kindOf s) mark (x .plan) (x .walk) (passes-accepts (kindOf s) mark (x .plan) (x .walk) (right .0)) in
     record { plan = x .plan; walk = x .walk; valid = o .0; ordering = o .1; passing = right .0; failing = right .1 }
 
 module _ (s s′ : Search) where
@@ -251,16 +253,16 @@ module _ (s s′ : Search) where
   hasRow [] = false
   hasRow (row from to x ∷ rs) = samePair from to || hasRow rs
 
-  row-tells : (rs : List Row) → Each Right rs → T (hasRow rs) → ToldApart s s′
+  row-tells : (mark : Mark) (rs : List Row) → Each (Right mark) rs → T (hasRow rs) → ToldApart mark s s′
   unfolding hasRow samePair
-  row-tells [] all t = absurd t
-  row-tells (row from to x ∷ rs) all t = ⊎-elim here (row-tells rs (all .1)) (or-out (samePair from to) (hasRow rs) t)
+  row-tells mark [] all t = absurd t
+  row-tells mark (row from to x ∷ rs) all t = ⊎-elim here (row-tells mark rs (all .1)) (or-out (samePair from to) (hasRow rs) t)
     where
-      here : T (samePair from to) → ToldApart s s′
+      here : T (samePair from to) → ToldApart mark s s′
       here e =
           let both = and-out (eqb (kindOf s) (kindOf from)) (eqb (kindOf s′) (kindOf to)) e in
-          subst (λ (z : Search). ToldApart z s′) (same-search s from (both .0))
-          (subst (ToldApart from) (same-search s′ to (both .1)) (told-apart from to x (all .0)))
+          subst (λ (z : Search). ToldApart mark z s′) (same-search s from (both .0))
+          (subst (ToldApart mark from) (same-search s′ to (both .1)) (told-apart mark from to x (all .0)))
 
 accountedFor : Search → Search → Bool
 accountedFor s s′ = carries s s′ || hasRow s s′ otherPairs
@@ -279,22 +281,23 @@ every-pair s s′ =
 
 module _ (s s′ : Search) (other : T (carries s s′) → ⊥) where
   -- 02: K1, which passes carry over: no others do. Where the table has no pair, judge passes some walk of some valid plan for s and fails it for s′,
-  pub does-not-carry-over-answers : ToldApart s s′
+  -- whatever the mark,
+  pub does-not-carry-over-answers : (mark : Mark) → ToldApart mark s s′
   unfolding accountedFor
-  does-not-carry-over-answers = ⊎-elim (λ t. absurd (other t)) (row-tells s s′ otherPairs rows-right) (or-out (carries s s′) (hasRow s s′ otherPairs) (every-pair s s′))
+  does-not-carry-over-answers mark = ⊎-elim (λ t. absurd (other t)) (row-tells s s′ mark otherPairs (rows-right mark)) (or-out (carries s s′) (hasRow s s′ otherPairs) (every-pair s s′))
 
   -- and so, of graphs, some ordering passes s and fails s′
   pub does-not-carry-over : (arc : ℕ → ℕ → Bool) × (n : ℕ) × (w : List ℕ) × (k : ℕ)
       × IsOrdering n w k × (judge s arc n w k ≡ passes) × Fails (judge s′ arc n w k)
   does-not-carry-over =
-      let x = does-not-carry-over-answers in
+      let x = does-not-carry-over-answers Mark.TwoWay in
       let f = x .failing in
-      let valid = valid-any-kind (kindOf s) (kindOf s′) (x .plan) (kind-below s′) (x .valid) in (
+      let valid = valid-any-kind (kindOf s) (kindOf s′) Mark.TwoWay (x .plan) (kind-below s′) (x .valid) in (
         arcs (x .plan),
         length (x .plan),
         x .walk,
         length (x .walk),
         x .ordering,
-        sym (judged-as s (x .plan) (x .walk) (x .valid) (x .ordering)) ∙ x .passing,
-        (f .0, f .1, f .2, sym (judged-as s′ (x .plan) (x .walk) valid (x .ordering)) ∙ f .3),
+        sym (judged-as s Mark.TwoWay (x .plan) (x .walk) (x .valid) (x .ordering)) ∙ x .passing,
+        (f .0, f .1, f .2, sym (judged-as s′ Mark.TwoWay (x .plan) (x .walk) valid (x .ordering)) ∙ f .3),
       )

@@ -1,6 +1,6 @@
 -- The three demands, over the definitions that the functions' promises cite. Each theorem's comment says which sentence it is; the work is
 -- done in the modules that the proofs cite. Demand 1; then 2 and 3 for any graph, that is any relation `arc` on the vertices below n, of which a
--- plan with links both ways is a case; then 2 and 3 as the calls answer on kind byte, rows and lists.
+-- plan is a case, two-way or one-way; then 2 and 3 as the calls answer on kind byte, mark, rows and lists.
 -- A function's contract is an equation with `judgeAnswer`, `carryOnAnswer` or `carryOnOutput`; a list that a contract does not name at exit is
 -- passed as `&` and cannot change; that every call ends is part of every proof of a function.
 -- Assumes nothing.
@@ -21,6 +21,7 @@ use Rattle.searches.specs.Violation.{passes, fails, refused, Fails, judg
 use Rattle.searches.specs.CarryOn.{carryOn, CarriedOn}
 use Rattle.searches.specs.Answer.{openTests, judgeTests, carryOnTests, Accepts, Refuses}
 use Rattle.searches.specs.Answer.{judgeAnswer, openAnswer, carryOnAnswer, carryOnOutput}
+use Rattle.searches.specs.declared.Mark.{Mark}
 use Rattle.searches.proofs.Ordering.{ordering-prefix, ordering-fits, length-grown}
 use Rattle.searches.proofs.Run.{Unreached, all-offered-first, restart-allowed, restart-only-then}
 use Rattle.searches.proofs.Judge.{passes-unviolated, unviolated-passes}
@@ -33,26 +34,26 @@ use Rattle.searches.proofs.Parts as parts
 -- ---- Demand 1: the caller's memory
 
 -- each refusal in its stated case and no other: the answer is refusal r exactly when r's test holds and no earlier one does
-pub judge-refuses : (kind : ℕ) (rows w : List ℕ) (r : ℕ) → (judgeAnswer kind rows w ≡ refused r) ↔ Refuses r (judgeTests kind rows w)
-judge-refuses kind rows w r = (answers.refused-judge kind rows w r, answers.judge-refused kind rows w r)
+pub judge-refuses : (kind : ℕ) (mark : Mark) (rows w : List ℕ) (r : ℕ) → (judgeAnswer kind mark rows w ≡ refused r) ↔ Refuses r (judgeTests kind mark rows w)
+judge-refuses kind mark rows w r = (answers.refused-judge kind mark rows w r, answers.judge-refused kind mark rows w r)
 
-pub carryOn-refuses : (kind : ℕ) (rows t out : List ℕ) (k r : ℕ)
-    → (carryOnAnswer kind rows t out k ≡ some r) ↔ Refuses r (carryOnTests kind rows t out k)
+pub carryOn-refuses : (kind : ℕ) (mark : Mark) (rows t out : List ℕ) (k r : ℕ)
+    → (carryOnAnswer kind mark rows t out k ≡ some r) ↔ Refuses r (carryOnTests kind mark rows t out k)
 unfolding carryOnAnswer
-carryOn-refuses kind rows t out k r = (first-refuses (carryOnTests kind rows t out k) r, refuses-first (carryOnTests kind rows t out k) r)
+carryOn-refuses kind mark rows t out k r = (first-refuses (carryOnTests kind mark rows t out k) r, refuses-first (carryOnTests kind mark rows t out k) r)
 
-pub open-refuses : (kind : ℕ) (rows : List ℕ) (r : ℕ) → (openAnswer kind rows ≡ some r) ↔ Refuses r (openTests kind rows)
+pub open-refuses : (kind : ℕ) (mark : Mark) (rows : List ℕ) (r : ℕ) → (openAnswer kind mark rows ≡ some r) ↔ Refuses r (openTests kind mark rows)
 unfolding openAnswer
-open-refuses kind rows r = (first-refuses (openTests kind rows) r, refuses-first (openTests kind rows) r)
+open-refuses kind mark rows r = (first-refuses (openTests kind mark rows) r, refuses-first (openTests kind mark rows) r)
 
 -- and then nothing is altered
-pub refused-keeps : (kind : ℕ) (rows t out : List ℕ) (k r : ℕ) → Refuses r (carryOnTests kind rows t out k) → carryOnOutput kind rows t out k ≡ out
+pub refused-keeps : (kind : ℕ) (mark : Mark) (rows t out : List ℕ) (k r : ℕ) → Refuses r (carryOnTests kind mark rows t out k) → carryOnOutput kind mark rows t out k ≡ out
 refused-keeps = answers.carryOn-kept
 
 -- the output list only where a successful call fills it: for every input its first k bytes, its bytes from n on and its length stay
-pub output-stays : (kind : ℕ) (rows t out : List ℕ) (k : ℕ)
-    → (take k (carryOnOutput kind rows t out k) ≡ take k out) × (drop (length rows) (carryOnOutput kind rows t out k) ≡ drop (length rows) out)
-    × (length (carryOnOutput kind rows t out k) ≡ length out)
+pub output-stays : (kind : ℕ) (mark : Mark) (rows t out : List ℕ) (k : ℕ)
+    → (take k (carryOnOutput kind mark rows t out k) ≡ take k out) × (drop (length rows) (carryOnOutput kind mark rows t out k) ≡ drop (length rows) out)
+    × (length (carryOnOutput kind mark rows t out k) ≡ length out)
 output-stays = parts.output-kept
 
 -- ---- Demands 2 and 3 for any graph
@@ -134,32 +135,32 @@ module _ (s : Search) (arc : ℕ → ℕ → Bool) (n : ℕ) where
     pub fails-after : {a b c : ℕ} (f : FirstViolation s arc n w m a b c) (l : ℕ) → f .j < l → l ≤ m → Fails (judge s arc n w l)
     fails-after {a} {b} {c} = passing.cut-after-fails s arc n w m a b c (ordering-prefix n m cut o)
 
--- ---- Demands 2 and 3, as the calls answer: for every valid kind and plan
+-- ---- Demands 2 and 3, as the calls answer: for every valid kind and plan, whatever its mark
 
 -- judge's answer on a part of a walk is the verdict that the theorems on any graph speak of
-pub part-judged : (kind : ℕ) (rows w : List ℕ) (k : ℕ) → Accepts (openTests kind rows) → IsOrdering (length rows) w k
-    → judgeAnswer kind rows (take k w) ≡ judge (searchOf kind) (arcs rows) (length rows) w k
+pub part-judged : (kind : ℕ) (mark : Mark) (rows w : List ℕ) (k : ℕ) → Accepts (openTests kind mark rows) → IsOrdering (length rows) w k
+    → judgeAnswer kind mark rows (take k w) ≡ judge (searchOf kind) (arcs rows) (length rows) w k
 part-judged = answers.prefix-judged
 
-module _ (kind : ℕ) (rows : List ℕ) (valid : Accepts (openTests kind rows)) where
+module _ (kind : ℕ) (mark : Mark) (rows : List ℕ) (valid : Accepts (openTests kind mark rows)) where
   -- Demand 2: a full walk passes exactly when carrying on from nothing, with that walk reversed as preference list, gives it again
   pub written-again : (w out : List ℕ) → IsFullOrdering (length rows) w → length rows ≤ length out
-      → (judgeAnswer kind rows w ≡ passes) ↔ (take (length rows) (carryOnOutput kind rows (reverse w) out 0) ≡ w)
-  written-again w out all room = (parts.passes-written-again kind rows valid w all out room, parts.written-again-passes kind rows valid w all out room)
+      → (judgeAnswer kind mark rows w ≡ passes) ↔ (take (length rows) (carryOnOutput kind mark rows (reverse w) out 0) ≡ w)
+  written-again w out all room = (parts.passes-written-again kind mark rows valid w all out room, parts.written-again-passes kind mark rows valid w all out room)
 
   -- Demand 3: for every walk of distinct points and every cut m of it,
   module _ (w : List ℕ) (k : ℕ) (o : IsOrdering (length rows) w k) (m : ℕ) (cut : m ≤ k) where
-    answer : judgeAnswer kind rows (take m w) ≡ judge (searchOf kind) (arcs rows) (length rows) w m
-    answer = part-judged kind rows w m valid (ordering-prefix (length rows) m cut o)
+    answer : judgeAnswer kind mark rows (take m w) ≡ judge (searchOf kind) (arcs rows) (length rows) w m
+    answer = part-judged kind mark rows w m valid (ordering-prefix (length rows) m cut o)
 
     -- judge passes the part exactly when some run of the search begins with it,
-    pub part-as-run : (judgeAnswer kind rows (take m w) ≡ passes) ↔ BeginsRun (searchOf kind) (arcs rows) (length rows) w m
+    pub part-as-run : (judgeAnswer kind mark rows (take m w) ≡ passes) ↔ BeginsRun (searchOf kind) (arcs rows) (length rows) w m
     part-as-run =
         let i = passes-as-run (searchOf kind) (arcs rows) (length rows) w k o m cut in
         (λ p. i .0 (sym answer ∙ p), λ b. answer ∙ i .1 b)
 
     -- and exactly when with only that part placed no three points stand in the fault relation
-    pub part-unfaulted : (judgeAnswer kind rows (take m w) ≡ passes) ↔ ((i j c : ℕ) → Violates (searchOf kind) (arcs rows) (length rows) w m i j c → ⊥)
+    pub part-unfaulted : (judgeAnswer kind mark rows (take m w) ≡ passes) ↔ ((i j c : ℕ) → Violates (searchOf kind) (arcs rows) (length rows) w m i j c → ⊥)
     part-unfaulted =
         let i = passes-unfaulted (searchOf kind) (arcs rows) (length rows) w k o m cut in
         (λ p. i .0 (sym answer ∙ p), λ none. answer ∙ i .1 none)
@@ -167,25 +168,25 @@ module _ (kind : ℕ) (rows : List ℕ) (valid : Accepts (openTests kind rows)) 
     -- a passed part, at the front of any output list with room, is carried on, whatever the preference list, and the first n bytes then hold a
     -- walk of all points that begins with it, passes, and has at each added place the offered point that stands last in the list
     pub part-carried-on : (t out : List ℕ) → IsFullOrdering (length rows) t → length rows ≤ length out → take m out ≡ take m w
-        → judgeAnswer kind rows (take m w) ≡ passes
-        → (carryOnAnswer kind rows t out m ≡ none)
-        × CarriedOn (searchOf kind) (arcs rows) (length rows) t w m (take (length rows) (carryOnOutput kind rows t out m))
+        → judgeAnswer kind mark rows (take m w) ≡ passes
+        → (carryOnAnswer kind mark rows t out m ≡ none)
+        × CarriedOn (searchOf kind) (arcs rows) (length rows) t w m (take (length rows) (carryOnOutput kind mark rows t out m))
     part-carried-on t out names room front p =
-        parts.part-carried kind rows valid w m (ordering-prefix (length rows) m cut o) t out names room front (sym answer ∙ p)
+        parts.part-carried kind mark rows valid w m (ordering-prefix (length rows) m cut o) t out names room front (sym answer ∙ p)
 
     -- a failed one is shown its first fault triple, all others come after it
-    pub part-shown-first : (a b c : ℕ) → judgeAnswer kind rows (take m w) ≡ fails a b c
+    pub part-shown-first : (a b c : ℕ) → judgeAnswer kind mark rows (take m w) ≡ fails a b c
         → FirstViolation (searchOf kind) (arcs rows) (length rows) w m a b c
     part-shown-first a b c e = shown-first (searchOf kind) (arcs rows) (length rows) w k o m cut a b c (sym answer ∙ e)
 
   module _ (w : List ℕ) (k : ℕ) (o : IsOrdering (length rows) w k) (a b c : ℕ) (f : FirstViolation (searchOf kind) (arcs rows) (length rows) w k a b c) where
     -- cut just before its middle point it passes,
-    pub part-passes-before : judgeAnswer kind rows (take (f .j) w) ≡ passes
+    pub part-passes-before : judgeAnswer kind mark rows (take (f .j) w) ≡ passes
     part-passes-before =
         answer w k o (f .j) (omega (arith, f .is .middle)) ∙ passes-before (searchOf kind) (arcs rows) (length rows) w k o k (omega arith) f
 
     -- cut anywhere further on it fails
-    pub part-fails-after : (l : ℕ) → f .j < l → l ≤ k → Fails (judgeAnswer kind rows (take l w))
+    pub part-fails-after : (l : ℕ) → f .j < l → l ≤ k → Fails (judgeAnswer kind mark rows (take l w))
     part-fails-after l h i =
         let x = fails-after (searchOf kind) (arcs rows) (length rows) w k o k (omega arith) f l h i in
         (x .0, x .1, x .2, answer w k o l i ∙ x .3)

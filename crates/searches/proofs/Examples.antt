@@ -20,8 +20,9 @@ use Rattle.searches.specs.Run.{offered}
 use Rattle.searches.specs.Violation.{condition, meets, violates}
 use Rattle.searches.specs.Violation.{Verdict, passes, fails, refused, third, isLast, isFirst, isMiddle, judge}
 use Rattle.searches.specs.CarryOn.{choice, grow, carryOn}
-use Rattle.searches.specs.Answer.{bitOutside, selfLoop, oneWay, vertexOutside, repeated, isPass, openTests, judgeTests, listTests, carryOnTests, firstRefusal}
+use Rattle.searches.specs.Answer.{bitOutside, selfLoop, oneWay, isTwoWay, vertexOutside, repeated, isPass, openTests, judgeTests, listTests, carryOnTests, firstRefusal}
 use Rattle.searches.specs.Answer.{judgeAnswer, carryOnOutput}
+use Rattle.searches.specs.declared.Mark.{Mark}
 use Rattle.searches.proofs.Ordering.{upTo}
 
 -- ---- plans by their links
@@ -46,8 +47,8 @@ numbers (fails a b c) = 0 ∷ a ∷ b ∷ c ∷ []
 numbers (refused r) = []
 
 answer : List ℕ → Question → ℕ → List ℕ
-answer rows (judging walk) kind = numbers (judgeAnswer kind rows walk)
-answer rows (carrying preference output k) kind = carryOnOutput kind rows preference output k
+answer rows (judging walk) kind = numbers (judgeAnswer kind Mark.TwoWay rows walk)
+answer rows (carrying preference output k) kind = carryOnOutput kind Mark.TwoWay rows preference output k
 
 record Example : Type 0 where
   rows : List ℕ
@@ -172,7 +173,7 @@ right-out (e ∷ es) t =
 computed : T (right examples)
 unfolding right answered same answer numbers examples P C two-pieces everywhere pass fail rowsOf rowOf upTo
     anyBelow allBelow firstBelow lastBelow countBelow differ within member searchOf arcs placed label empty nearer settled outranks offered condition meets violates
-    third isLast isFirst isMiddle judge choice grow carryOn bitOutside selfLoop oneWay vertexOutside repeated isPass
+    third isLast isFirst isMiddle judge choice grow carryOn bitOutside selfLoop oneWay isTwoWay vertexOutside repeated isPass
     openTests judgeTests listTests carryOnTests firstRefusal judgeAnswer carryOnOutput
 computed = tt
 

@@ -15,3 +15,4 @@ pub mod Parts
 pub mod Examples
 pub mod CarryOver
 pub mod Demands
+pub mod Marks

@@ -18,6 +18,7 @@ use Rattle.bitset.proofs.Below.{any-out, any-at}
 use Rattle.searches.specs.Ordering.{arcs, at}
 use Rattle.searches.specs.Answer.{bitOutside, selfLoop, oneWay, vertexOutside, repeated}
 use Rattle.searches.specs.Answer.{openTests, judgeTests, listTests, carryOnTests, firstRefusal, Accepts, Refuses}
+use Rattle.searches.specs.declared.Mark.{Mark}
 
 -- ---- the first test that holds
 
@@ -72,20 +73,20 @@ numbers : List (ℕ × Bool) → List ℕ
 numbers tests = map (λ (test : ℕ × Bool). test .0) tests
 
 -- open checks 1 to 5
-open-order : (kind : ℕ) (rows : List ℕ) → numbers (openTests kind rows) ≡ 1 ∷ 2 ∷ 3 ∷ 4 ∷ 5 ∷ []
+open-order : (kind : ℕ) (mark : Mark) (rows : List ℕ) → numbers (openTests kind mark rows) ≡ 1 ∷ 2 ∷ 3 ∷ 4 ∷ 5 ∷ []
 unfolding numbers openTests
-open-order kind rows = refl
+open-order kind mark rows = refl
 
 -- judge checks 1 to 6, 8, 9
-judge-order : (kind : ℕ) (rows w : List ℕ) → numbers (judgeTests kind rows w) ≡ 1 ∷ 2 ∷ 3 ∷ 4 ∷ 5 ∷ 6 ∷ 8 ∷ 9 ∷ []
+judge-order : (kind : ℕ) (mark : Mark) (rows w : List ℕ) → numbers (judgeTests kind mark rows w) ≡ 1 ∷ 2 ∷ 3 ∷ 4 ∷ 5 ∷ 6 ∷ 8 ∷ 9 ∷ []
 unfolding numbers openTests judgeTests
-judge-order kind rows w = refl
+judge-order kind mark rows w = refl
 
 -- carry-on checks 1 to 6, 10, 7, then 8, 9, then 12
-carryOn-order : (kind : ℕ) (rows t out : List ℕ) (k : ℕ)
-    → numbers (carryOnTests kind rows t out k) ≡ 1 ∷ 2 ∷ 3 ∷ 4 ∷ 5 ∷ 6 ∷ 10 ∷ 7 ∷ 8 ∷ 9 ∷ 12 ∷ []
+carryOn-order : (kind : ℕ) (mark : Mark) (rows t out : List ℕ) (k : ℕ)
+    → numbers (carryOnTests kind mark rows t out k) ≡ 1 ∷ 2 ∷ 3 ∷ 4 ∷ 5 ∷ 6 ∷ 10 ∷ 7 ∷ 8 ∷ 9 ∷ 12 ∷ []
 unfolding numbers openTests listTests carryOnTests
-carryOn-order kind rows t out k = refl
+carryOn-order kind mark rows t out k = refl
 
 -- ---- what the tests mean
 

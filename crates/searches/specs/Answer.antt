@@ -1,13 +1,15 @@
 -- What the calls answer, for every input: refusals first. The functions' promises are equations with these.
 --   bitOutside, selfLoop, oneWay rows    a bit at or above n in some row; a vertex linked to itself; a link in one row only
+--   isTwoWay mark                        the graph is marked two-way                                        [02, K4: the mark]
+--   BothWays rows                        every link goes both ways
 --   vertexOutside n w k, repeated w k    one of the first k entries of w is n or more; one stands there twice
 --   openTests, judgeTests, listTests, carryOnTests   what is refused: numbers and tests in 01's order        [01: refusals]
 --   firstRefusal tests                   the number of the first test that holds
 --   Accepts tests, Refuses r tests       no test holds; the first test that holds has number r
 --   judgeAnswer, openAnswer, carryOnAnswer   what is answered                                               [01: the calls]
---   carryOnOutput kind rows t out k      what the output list then holds
+--   carryOnOutput kind mark rows t out k   what the output list then holds
 --   number, verdictOf, refusalOf         a refusal, a judgement and an outcome of the code as the papers' number and values
-use Prim.Native.Nat.{ℕ}
+use Prim.Native.Nat.{ℕ, _<_}
 use mathlib.Core.Path.{_≡_}
 use mathlib.Core.Logic.{_⊎_}
 use mathlib.Core.Bool.{Bool, true, false, cond, not, _&&_, _||_}
@@ -20,6 +22,7 @@ use Rattle.searches.specs.Kind.{searchOf}
 use Rattle.searches.specs.Ordering.{arcs, at}
 use Rattle.searches.specs.Violation.{Verdict, passes, fails, refused, judge}
 use Rattle.searches.specs.CarryOn.{carryOn}
+use Rattle.searches.specs.declared.Mark.{Mark}
 use Rattle.searches.specs.declared.Refusal.{Refusal}
 use Rattle.searches.specs.declared.Judgement.{Judgement}
 use Rattle.searches.specs.declared.Outcome.{Outcome}
@@ -33,6 +36,13 @@ selfLoop rows = anyBelow (length rows) (λ u. arcs rows u u)
 unfoldable pub oneWay : List ℕ → Bool
 oneWay rows = anyBelow (length rows) (λ u. anyBelow (length rows) (λ v. arcs rows u v && not (arcs rows v u)))
 
+unfoldable pub isTwoWay : Mark → Bool
+isTwoWay Mark.TwoWay = true
+isTwoWay Mark.OneWay = false
+
+abbrev pub BothWays : List ℕ → Type 0
+BothWays rows = (u v : ℕ) → u < length rows → v < length rows → arcs rows u v ≡ arcs rows v u
+
 unfoldable pub vertexOutside : ℕ → List ℕ → ℕ → Bool
 vertexOutside n w k = anyBelow k (λ p. leb n (at w p))
 
@@ -44,28 +54,28 @@ isPass passes = true
 isPass (fails a b c) = false
 isPass (refused r) = false
 
-unfoldable pub openTests : ℕ → List ℕ → List (ℕ × Bool)
-openTests kind rows =
+unfoldable pub openTests : ℕ → Mark → List ℕ → List (ℕ × Bool)
+openTests kind mark rows =
     (1, ltb 6 kind)
     ∷ (2, ltb 64 (length rows))
     ∷ (3, bitOutside rows)
     ∷ (4, selfLoop rows)
-    ∷ (5, oneWay rows)
+    ∷ (5, isTwoWay mark && oneWay rows)
     ∷ []
 
-unfoldable pub judgeTests : ℕ → List ℕ → List ℕ → List (ℕ × Bool)
-judgeTests kind rows w =
-    openTests kind rows
+unfoldable pub judgeTests : ℕ → Mark → List ℕ → List ℕ → List (ℕ × Bool)
+judgeTests kind mark rows w =
+    openTests kind mark rows
     ++ (6, ltb (length rows) (length w))
     ∷ (8, vertexOutside (length rows) w (length w))
     ∷ (9, repeated w (length w))
     ∷ []
 
 -- what carry-on asks of its lists, before it judges the start
-unfoldable pub listTests : ℕ → List ℕ → List ℕ → List ℕ → ℕ → List (ℕ × Bool)
-listTests kind rows t out k =
+unfoldable pub listTests : ℕ → Mark → List ℕ → List ℕ → List ℕ → ℕ → List (ℕ × Bool)
+listTests kind mark rows t out k =
     let n = length rows in
-    openTests kind rows
+    openTests kind mark rows
     ++ (6, ltb n k)
     ∷ (10, ltb (length out) n)
     ∷ (7, not (eqb (length t) n))
@@ -73,9 +83,9 @@ listTests kind rows t out k =
     ∷ (9, repeated out k || repeated t n)
     ∷ []
 
-unfoldable pub carryOnTests : ℕ → List ℕ → List ℕ → List ℕ → ℕ → List (ℕ × Bool)
-carryOnTests kind rows t out k =
-    listTests kind rows t out k ++ (12, not (isPass (judge (searchOf kind) (arcs rows) (length rows) out k))) ∷ []
+unfoldable pub carryOnTests : ℕ → Mark → List ℕ → List ℕ → List ℕ → ℕ → List (ℕ × Bool)
+carryOnTests kind mark rows t out k =
+    listTests kind mark rows t out k ++ (12, not (isPass (judge (searchOf kind) (arcs rows) (length rows) out k))) ∷ []
 
 unfoldable pub firstRefusal : List (ℕ × Bool) → Option ℕ
 firstRefusal [] = none
@@ -89,24 +99,24 @@ abbrev pub Refuses : ℕ → List (ℕ × Bool) → Type 0
 Refuses r [] = ⊥
 Refuses r (test ∷ tests) = ((test .0 ≡ r) × T (test .1)) ⊎ ((T (test .1) → ⊥) × Refuses r tests)
 
-unfoldable pub judgeAnswer : ℕ → List ℕ → List ℕ → Verdict
-judgeAnswer kind rows w =
-    elim (firstRefusal (judgeTests kind rows w)) [
+unfoldable pub judgeAnswer : ℕ → Mark → List ℕ → List ℕ → Verdict
+judgeAnswer kind mark rows w =
+    elim (firstRefusal (judgeTests kind mark rows w)) [
       | none ↦ judge (searchOf kind) (arcs rows) (length rows) w (length w)
       | some r ↦ refused r
     ]
 
-unfoldable pub openAnswer : ℕ → List ℕ → Option ℕ
-openAnswer kind rows = firstRefusal (openTests kind rows)
+unfoldable pub openAnswer : ℕ → Mark → List ℕ → Option ℕ
+openAnswer kind mark rows = firstRefusal (openTests kind mark rows)
 
-module _ (kind : ℕ) (rows t out : List ℕ) (k : ℕ) where
+module _ (kind : ℕ) (mark : Mark) (rows t out : List ℕ) (k : ℕ) where
   unfoldable pub carryOnAnswer : Option ℕ
-  carryOnAnswer = firstRefusal (carryOnTests kind rows t out k)
+  carryOnAnswer = firstRefusal (carryOnTests kind mark rows t out k)
 
   -- on success the carried-on ordering, and behind it the bytes that stood there; on refusal what it was
   unfoldable pub carryOnOutput : List ℕ
   carryOnOutput =
-      elim (firstRefusal (carryOnTests kind rows t out k)) [
+      elim (firstRefusal (carryOnTests kind mark rows t out k)) [
         | none ↦ carryOn (searchOf kind) (arcs rows) (length rows) t out k ++ drop (length rows) out
         | some r ↦ out
       ]

@@ -1,4 +1,4 @@
-// The vocabulary of the project: vertices and positions, the kinds of search, and the answers.
+// The vocabulary of the project: vertices and positions, the kinds of search, the mark of a graph, and the answers.
 // The definitions that give these their meaning are in specs/, the theorems in proofs/.
 
 // A vertex of a graph (01: point).
@@ -25,6 +25,13 @@ impl Kind {
     pub const MNS: Kind = Kind(5);
 
     pub const MCS: Kind = Kind(6);
+}
+
+// Whether the links of a graph have a direction (02: the mark of a plan). In a two-way graph every link is in both of its rows; in a one-way graph
+// bit v of row u says that u leads to v, and nothing about v to u.
+pub enum Mark {
+    TwoWay,
+    OneWay,
 }
 
 // Three vertices that show where an ordering leaves its search (01: fault triple a, b, c): `b` was placed

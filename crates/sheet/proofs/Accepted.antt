@@ -21,7 +21,8 @@ use Rattle.bitset.specs.Word.{member}
 use Rattle.bitset.proofs.Tests.{and-in, and-out, not-not}
 use Rattle.bitset.proofs.Below.{any-out, any-same, all-in}
 use Rattle.searches.specs.Ordering.{arcs, at, IsOrdering}
-use Rattle.searches.specs.Answer.{openTests, Accepts}
+use Rattle.searches.specs.Answer.{isTwoWay, openTests, Accepts}
+use Rattle.searches.specs.declared.Mark.{Mark}
 use Rattle.searches.proofs.Refusals.{accepts-none, none-accepts, bitOutside-out, selfLoop-out, oneWay-out}
 use Rattle.searches.proofs.Answers.{clear, all-inside, none-repeated}
 use Rattle.sheet.specs.Sheet.{pointsOf, linksOf, placesOf, headed, linkStart, fromOf, toOf, beforeFrom, beforeTo, isBelow, linkFitsAt, linkFits, joinedRows}
@@ -176,8 +177,8 @@ module _ (b : List ℕ) (x : Accepted b) where
       ∙ any-same (linksOf b) (λ i. joins (fromOf b i) (toOf b i) u v) (λ i. joins (fromOf b i) (toOf b i) v u) (λ i _. joins-back (fromOf b i) (toOf b i) u v)
       ∙ sym (arcs-read v u lv)
 
-  pub valid-rows : (kind : ℕ) → kind ≤ 6 → Accepts (openTests kind (rowsOf b))
-  unfolding openTests
+  pub valid-rows : (kind : ℕ) → kind ≤ 6 → Accepts (openTests kind Mark.TwoWay (rowsOf b))
+  unfolding openTests isTwoWay
   valid-rows kind known =
       let rows = rowsOf b in
       let long : length rows ≡ pointsOf b = length-read in (

@@ -19,7 +19,8 @@ use lib.ListN.{length}
 use Rattle.bitset.proofs.Tests.{and-in, and-out, or-inl, or-inr, or-out, decided, below-or, below-suc}
 use Rattle.bitset.proofs.Below.{any-out, any-at}
 use Rattle.searches.specs.Ordering.{arcs, at, IsOrdering}
-use Rattle.searches.specs.Answer.{openTests, Accepts}
+use Rattle.searches.specs.Answer.{isTwoWay, openTests, Accepts}
+use Rattle.searches.specs.declared.Mark.{Mark}
 use Rattle.searches.proofs.Ordering.{ordering-fits}
 use Rattle.searches.proofs.Refusals.{bitOutside-in, selfLoop-in, oneWay-in}
 use Rattle.searches.proofs.Answers.{valid-small}
@@ -39,10 +40,10 @@ pub record Graph (rows : List ℕ) : Type 0 where
   pub loopless : (u : ℕ) → u < length rows → T (arcs rows u u) → ⊥
   pub both-ways : (u v : ℕ) → u < length rows → v < length rows → T (arcs rows u v) → T (arcs rows v u)
 
-pub valid-graph : (kind : ℕ) (rows : List ℕ) → Accepts (openTests kind rows) → Graph rows
-unfolding openTests
+pub valid-graph : (kind : ℕ) (rows : List ℕ) → Accepts (openTests kind Mark.TwoWay rows) → Graph rows
+unfolding openTests isTwoWay
 valid-graph kind rows a = record {
-  few = valid-small kind rows a;
+  few = valid-small kind Mark.TwoWay rows a;
   inside = λ u v l h t. within u v l h t (below-or v (length rows));
   loopless = λ u l t. a .1 .1 .1 .0 (selfLoop-in rows u l t);
   both-ways = λ u v l h t. back u v l h t (decided (arcs rows v u));

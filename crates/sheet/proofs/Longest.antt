@@ -20,6 +20,7 @@ use lib.ListN.{length}
 use Rattle.bitset.proofs.Tests.{below-or}
 use Rattle.searches.specs.Ordering.{at, IsOrdering}
 use Rattle.searches.specs.Answer.{openTests, judgeTests, Accepts}
+use Rattle.searches.specs.declared.Mark.{Mark}
 use Rattle.sheet.specs.Sheet.{pointsOf, linksOf, placesOf, linkStart, fromOf, toOf, beforeFrom, beforeTo}
 use Rattle.sheet.specs.Sheet.{placeStart, formed, readAnswer}
 use Rattle.sheet.specs.Written.{linkList, sheetOf, longest}
@@ -118,7 +119,7 @@ module _ (b : List ℕ) (read : readAnswer b ≡ none) where
   pub longest-sheet : length b ≤ longest
   longest-sheet = let x = accepted-out b read in lines-short b (x .points) (x .places) (x .link-lines) (x .long)
 
-pub longest-plan : (kind : ℕ) (rows : List ℕ) → Accepts (openTests kind rows) → 2 * length (linkList rows) ≤ length rows * (length rows - 1)
+pub longest-plan : (kind : ℕ) (rows : List ℕ) → Accepts (openTests kind Mark.TwoWay rows) → 2 * length (linkList rows) ≤ length rows * (length rows - 1)
 longest-plan kind rows valid =
     let b = sheetOf rows [] in
     let graph = valid-graph kind rows valid in
@@ -127,5 +128,5 @@ longest-plan kind rows valid =
     let few = links-halved b (linksOf b) (written-accepted b rows [] graph nothing written .link-lines) in
     subst (λ (n : ℕ). 2 * length (linkList rows) ≤ n * (n - 1)) (written .points) (subst (λ (m : ℕ). 2 * m ≤ pointsOf b * (pointsOf b - 1)) (written .links) few)
 
-pub longest-written : (kind : ℕ) (rows w : List ℕ) → Accepts (judgeTests kind rows w) → ((u : ℕ) → u < length rows → at rows u < 2 ^ 64) → length (sheetOf rows w) ≤ longest
+pub longest-written : (kind : ℕ) (rows w : List ℕ) → Accepts (judgeTests kind Mark.TwoWay rows w) → ((u : ℕ) → u < length rows → at rows u < 2 ^ 64) → length (sheetOf rows w) ≤ longest
 longest-written kind rows w valid words = longest-sheet (sheetOf rows w) (reads-back kind rows w valid words .answer)

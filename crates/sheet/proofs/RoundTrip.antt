@@ -16,6 +16,7 @@ use Rattle.searches.specs.Kind.{searchOf}
 use Rattle.searches.specs.Ordering.{arcs, at, IsOrdering}
 use Rattle.searches.specs.Violation.{judge}
 use Rattle.searches.specs.Answer.{openTests, judgeTests, Accepts, judgeAnswer}
+use Rattle.searches.specs.declared.Mark.{Mark}
 use Rattle.searches.proofs.Answers.{accepted-ordering, ordering-accepted, judge-accepted}
 use Rattle.sheet.specs.Sheet.{pointsOf, linksOf, placesOf, fromOf, toOf, placeAt, tabulate, walkOf, rowsOf, readAnswer}
 use Rattle.sheet.specs.Written.{isLink, linkList, sheetOf}
@@ -29,7 +30,7 @@ use Rattle.sheet.proofs.Links.{valid-graph, parts, fits, numberOf, numb
 -- ---- what is read is valid
 
 pub record ValidRead (b : List ℕ) : Type 0 where
-  pub graph : (kind : ℕ) → kind ≤ 6 → Accepts (openTests kind (rowsOf b))
+  pub graph : (kind : ℕ) → kind ≤ 6 → Accepts (openTests kind Mark.TwoWay (rowsOf b))
   pub points : length (rowsOf b) ≡ pointsOf b
   pub words : (u : ℕ) → u < pointsOf b → at (rowsOf b) u < 2 ^ 64
   pub walk : IsOrdering (pointsOf b) (walkOf b) (placesOf b)
@@ -41,7 +42,7 @@ valid-read b e =
 
 -- the verdict that is printed for a kind
 pub kinds-judged : (b : List ℕ) → readAnswer b ≡ none → (kind : ℕ) → kind ≤ 6
-    → judgeAnswer kind (rowsOf b) (walkOf b) ≡ judge (searchOf kind) (arcs (rowsOf b)) (length (rowsOf b)) (walkOf b) (length (walkOf b))
+    → judgeAnswer kind Mark.TwoWay (rowsOf b) (walkOf b) ≡ judge (searchOf kind) (arcs (rowsOf b)) (length (rowsOf b)) (walkOf b) (length (walkOf b))
 unfolding walkOf
 kinds-judged b e kind l =
     let x = valid-read b e in
@@ -49,7 +50,7 @@ kinds-judged b e kind l =
     subst (λ (n : ℕ). IsOrdering n (walkOf b) (length (walkOf b))) (sym (x .points))
     (subst (λ (k : ℕ). IsOrdering (pointsOf b) (walkOf b) k) (sym (tabulate-length (placeAt b) (placesOf b))) (x .walk))
     in
-    judge-accepted kind (rowsOf b) (walkOf b) (ordering-accepted kind (rowsOf b) (walkOf b) (x .graph kind l) ordering)
+    judge-accepted kind Mark.TwoWay (rowsOf b) (walkOf b) (ordering-accepted kind Mark.TwoWay (rowsOf b) (walkOf b) (x .graph kind l) ordering)
 
 -- ---- what is written is read back
 
@@ -61,9 +62,9 @@ pub record ReadsBack (rows w : List ℕ) : Type 0 where
   pub walk : walkOf (sheetOf rows w) ≡ w
 
 -- the rows are those of a graph that judge does not refuse, each a word of 64 bits
-pub reads-back : (kind : ℕ) (rows w : List ℕ) → Accepts (judgeTests kind rows w) → ((u : ℕ) → u < length rows → at rows u < 2 ^ 64) → ReadsBack rows w
+pub reads-back : (kind : ℕ) (rows w : List ℕ) → Accepts (judgeTests kind Mark.TwoWay rows w) → ((u : ℕ) → u < length rows → at rows u < 2 ^ 64) → ReadsBack rows w
 reads-back kind rows w a words =
-    let valid = accepted-ordering kind rows w a in
+    let valid = accepted-ordering kind Mark.TwoWay rows w a in
     let g = valid-graph kind rows (valid .0) in
     let o = valid .1 in
     let x = sheet-written rows w (fits rows g o) in

@@ -26,7 +26,8 @@ use Rattle.searches.proofs.Ordering.{Agree, agree-sym, agree-fewer, take-agree,
 use Rattle.searches.proofs.Run.{offered-out}
 use Rattle.searches.proofs.CarryOn.{chosen-offered}
 use Rattle.labels.specs.Words.{Consistent, labelWith, smallestWith, largestWith, spreadBy, spreadTo, smallestTo, largestTo, openIn, chosenIn}
-use Rattle.steps.specs.Steps.{keptAfter, labelsAfter, smallestAfter, largestAfter, freeAfter, placedAfter, BothWays, Along}
+use Rattle.steps.specs.Columns.{Transposed}
+use Rattle.steps.specs.Steps.{keptAfter, labelsAfter, smallestAfter, largestAfter, freeAfter, placedAfter, Along}
 use Rattle.steps.proofs.Representation.{open-offered}
 use Rattle.steps.proofs.Tracking.{consistent-after}
 
@@ -168,7 +169,7 @@ module _ (rows : List ℕ) where
       same : Agree k w (take k w)
       same = agree-sym k (take k w) w (take-agree k w)
 
-  pub along-consistent : length rows ≤ 64 → BothWays rows → {p set free : ℕ} {labels smallest largest : List ℕ} → Along rows p labels smallest largest set free
-      → Consistent rows labels smallest largest set
-  along-consistent small both-ways {p} a =
-      consistent-after rows (a .walk) p small (a .ordering) both-ways p (omega arith) (a .labelled) (a .smallest-after) (a .largest-after) (a .set)
+  pub along-consistent : length rows ≤ 64 → {columns : List ℕ} → Transposed rows columns → {p set free : ℕ} {labels smallest largest : List ℕ} → Along rows p labels smallest largest set free
+      → Consistent columns labels smallest largest set
+  along-consistent small across {p} a =
+      consistent-after rows (a .walk) p small (a .ordering) across p (omega arith) (a .labelled) (a .smallest-after) (a .largest-after) (a .set)

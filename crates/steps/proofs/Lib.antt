@@ -1,4 +1,6 @@
 pub mod Representation
+pub mod Copying
+pub mod Turning
 pub mod Tallying
 pub mod Tracking
 pub mod Growing

@@ -34,7 +34,7 @@ module _ (s : Search) (rows w : List ℕ) (k : ℕ) where
     pub met : reached ≡ reachedAfter rows w j
     pub unbeaten : (i : ℕ) → i < j → T (stopsAt s rows w i) → ⊥
 
-  pub replay-start : {labels smallest largest : List ℕ} {free : ℕ} → Replayable rows w k labels smallest largest → free ≡ fullBelow (length rows)
+  pub replay-start : {columns labels smallest largest : List ℕ} {free : ℕ} → Replayable rows columns w k labels smallest largest → free ≡ fullBelow (length rows)
       → Replaying labels smallest largest 0 free 0 0
   unfolding keptAfter placedAfter freeAfter reachedAfter
   replay-start r e = record {
@@ -48,10 +48,10 @@ module _ (s : Search) (rows w : List ℕ) (k : ℕ) where
     unbeaten = λ i l. absurd (omega arith);
   }
 
-  pub replay-consistent : {labels₀ smallest₀ largest₀ labels smallest largest : List ℕ} {placed free reached j : ℕ} → Replayable rows w k labels₀ smallest₀ largest₀
-      → Replaying labels smallest largest placed free reached j → Consistent rows labels smallest largest placed
+  pub replay-consistent : {columns labels₀ smallest₀ largest₀ labels smallest largest : List ℕ} {placed free reached j : ℕ} → Replayable rows columns w k labels₀ smallest₀ largest₀
+      → Replaying labels smallest largest placed free reached j → Consistent columns labels smallest largest placed
   replay-consistent {j = j} x r =
-      consistent-after rows w k (x .small) (record { long = x .long; vertices = x .vertices; distinct = x .distinct }) (x .both-ways) j (r .upto) (r .labelled) (r .smallest-after)
+      consistent-after rows w k (x .small) (record { long = x .long; vertices = x .vertices; distinct = x .distinct }) (x .turned) j (r .upto) (r .labelled) (r .smallest-after)
       (r .largest-after) (r .set)
 
   -- what the code asks of the vertex b at position j

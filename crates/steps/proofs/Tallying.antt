@@ -2,7 +2,7 @@
 --   placed-members        placedAfter holds the placed vertices
 --   count-joined          a set that a number may join is larger by one where it does
 --   tally-more, label-more   so much larger are the count in a row, and a label, with one vertex more placed
---   tallied-after         after each vertex of an ordering of a two-way graph the two are equal
+--   tallied-after         after each vertex of an ordering the two are equal; the row is that of the transposed graph
 -- Assumes nothing.
 use mathlib.Core.Path.{_≡_, refl, sym, ap, ap₂, _∙_, subst}
 use mathlib.Core.Bool.{Bool, true, false, cond, _&&_, _||_}
@@ -21,7 +21,8 @@ use Rattle.searches.specs.Ordering.{arcs, at, placed, IsOrdering}
 use Rattle.searches.specs.Label.{label}
 use Rattle.searches.proofs.Ordering.{ordering-unplaced, ordering-fits}
 use Rattle.labels.specs.Words.{tally, Tallied, labelWith, joinedIn}
-use Rattle.steps.specs.Steps.{labelsAfter, placedAfter, BothWays}
+use Rattle.steps.specs.Columns.{Transposed}
+use Rattle.steps.specs.Steps.{labelsAfter, placedAfter}
 use Rattle.steps.proofs.Representation.{cut-below, kept-start, kept-next, kept-beyond, member-joined, label-members}
 
 -- ---- one number more
@@ -87,11 +88,11 @@ module _ (rows w : List ℕ) (k : ℕ) (small : length rows ≤ 64) (o : IsOrder
       word.member-inserted (placedAfter w j) {e = at w j} (omega (arith, o .vertices j h)) v
       ∙ ap (λ (b : Bool). eqb (at w j) v || b) (placed-members j (omega arith) v)
 
-  module _ (both-ways : BothWays rows) where
-    pub tallied-after : (j : ℕ) → j ≤ k → Tallied rows (labelsAfter rows w j) (placedAfter w j)
+  module _ (columns : List ℕ) (across : Transposed rows columns) where
+    pub tallied-after : (j : ℕ) → j ≤ k → Tallied columns (labelsAfter rows w j) (placedAfter w j)
     unfolding placedAfter tally arcs
     tallied-after zero h v l =
-        count-none 64 (member (common (getD rows v 0) 0)) (λ p _ t. word.empty-back refl p (and-out (member (getD rows v 0) p) (member 0 p) (subst (λ (x : Bool). T x) (word.member-common (getD rows v 0) 0 p) t) .1))
+        count-none 64 (member (common (getD columns v 0) 0)) (λ p _ t. word.empty-back refl p (and-out (member (getD columns v 0) p) (member 0 p) (subst (λ (x : Bool). T x) (word.member-common (getD columns v 0) 0 p) t) .1))
         ∙ sym (count-none 64 (member (getD (labelsAfter rows w 0) v 0)) (λ p _. word.empty-back (kept-start labelWith 0 rows w v l) p))
     tallied-after (suc j) h v l = go (tallied-after j (omega arith) v l) (below-or v (length rows))
       where
@@ -108,15 +109,16 @@ module _ (rows w : List ℕ) (k : ℕ) (small : length rows ≤ 64) (o : IsOrder
         unused : v < length rows → T (member (getD labels v 0) j) → ⊥
         unused vertex t = omega (arith, cut-below j (member (getD labels v 0)) (label (arcs rows) w v) (label-members rows w k small o j (omega arith) v vertex) j t)
 
-        go : tally rows (placedAfter w j) v ≡ countBelow 64 (member (getD labels v 0)) → (v < length rows) ⊎ (length rows ≤ v)
-            → tally rows (placedAfter w (suc j)) v ≡ countBelow 64 (member (getD (labelsAfter rows w (suc j)) v 0))
+        go : tally columns (placedAfter w j) v ≡ countBelow 64 (member (getD labels v 0)) → (v < length rows) ⊎ (length rows ≤ v)
+            → tally columns (placedAfter w (suc j)) v ≡ countBelow 64 (member (getD (labelsAfter rows w (suc j)) v 0))
         go same (inl vertex) =
             let row = getD rows u 0 in
             let here = o .vertices j h in
-            tally-more (getD rows v 0) (placedAfter w j) u (omega arith) fresh ∙ ap₂ (λ (b : Bool) (x : ℕ). cond b (suc x) x) (both-ways v u vertex here) same
+            tally-more (getD columns v 0) (placedAfter w j) u (omega arith) fresh ∙ ap₂ (λ (b : Bool) (x : ℕ). cond b (suc x) x) (across .turned u v here vertex) same
             ∙ sym (label-more row j v (getD labels v 0) (omega (arith, ordering-fits (length rows) o)) (unused vertex))
             ∙ sym (ap (λ (x : ℕ). countBelow 64 (member x)) (kept-next labelWith 0 rows w small j v vertex))
         go same (inr beyond) =
-            let none = List·getD-eq-default rows 0 beyond in
-            none-counted (getD rows v 0) (placedAfter w (suc j)) none ∙ sym (none-counted (getD rows v 0) (placedAfter w j) none) ∙ same
+            let outside : length columns ≤ v = omega (arith, across .as-many) in
+            let none = List·getD-eq-default columns 0 outside in
+            none-counted (getD columns v 0) (placedAfter w (suc j)) none ∙ sym (none-counted (getD columns v 0) (placedAfter w j) none) ∙ same
             ∙ ap (λ (x : ℕ). countBelow 64 (member x)) (kept-beyond labelWith 0 rows w j v l beyond ∙ sym (kept-beyond labelWith 0 rows w (suc j) v l beyond))

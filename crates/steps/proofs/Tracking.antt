@@ -24,7 +24,8 @@ use Rattle.searches.specs.Running.{smallestIn, largestIn, runningSmallest, runn
 use Rattle.searches.proofs.Ordering.{ordering-fits}
 use Rattle.searches.proofs.Running.{smallest-found, smallest-absent, largest-found, largest-absent, unchanged-unless-grown, smallest-begins, largest-moves, smallest-stays, smallest-kept, largest-kept, smallest-none, largest-none}
 use Rattle.labels.specs.Words.{smallestByte, largestByte, Tracked, Consistent, labelWith, smallestWith, largestWith, changedBy}
-use Rattle.steps.specs.Steps.{labelsAfter, smallestAfter, largestAfter, placedAfter, BothWays}
+use Rattle.steps.specs.Columns.{Transposed}
+use Rattle.steps.specs.Steps.{labelsAfter, smallestAfter, largestAfter, placedAfter}
 use Rattle.steps.proofs.Representation.{cut-same, cut-below, kept-start, kept-next, kept-beyond, label-members}
 use Rattle.steps.proofs.Tallying.{tallied-after}
 
@@ -147,11 +148,11 @@ module _ (rows w : List ℕ) (k : ℕ) (small : length rows ≤ 64) (o : IsOrder
             kept-beyond largestWith 0 rows w j v l beyond ∙ ap largestByte (sym (largest-absent 64 (member word) none-there)),
           )
 
-  pub consistent-after : BothWays rows → (j : ℕ) → j ≤ k → {labels smallest largest : List ℕ} {placed : ℕ} → labels ≡ labelsAfter rows w j
-      → smallest ≡ smallestAfter rows w j → largest ≡ largestAfter rows w j → placed ≡ placedAfter w j → Consistent rows labels smallest largest placed
-  consistent-after both-ways j h {labels} {smallest} {largest} {placed} at-labels at-smallest at-largest at-placed =
-      subst (λ (ls : List ℕ). Consistent rows ls smallest largest placed) (sym at-labels)
-      (subst (λ (ss : List ℕ). Consistent rows (labelsAfter rows w j) ss largest placed) (sym at-smallest)
-      (subst (λ (ls : List ℕ). Consistent rows (labelsAfter rows w j) (smallestAfter rows w j) ls placed) (sym at-largest)
-      (subst (λ (set : ℕ). Consistent rows (labelsAfter rows w j) (smallestAfter rows w j) (largestAfter rows w j) set) (sym at-placed)
-      (record { tallied = tallied-after rows w k small o both-ways j h; tracked = tracked-after j h }))))
+  pub consistent-after : {columns : List ℕ} → Transposed rows columns → (j : ℕ) → j ≤ k → {labels smallest largest : List ℕ} {placed : ℕ} → labels ≡ labelsAfter rows w j
+      → smallest ≡ smallestAfter rows w j → largest ≡ largestAfter rows w j → placed ≡ placedAfter w j → Consistent columns labels smallest largest placed
+  consistent-after {columns} across j h {labels} {smallest} {largest} {placed} at-labels at-smallest at-largest at-placed =
+      subst (λ (ls : List ℕ). Consistent columns ls smallest largest placed) (sym at-labels)
+      (subst (λ (ss : List ℕ). Consistent columns (labelsAfter rows w j) ss largest placed) (sym at-smallest)
+      (subst (λ (ls : List ℕ). Consistent columns (labelsAfter rows w j) (smallestAfter rows w j) ls placed) (sym at-largest)
+      (subst (λ (set : ℕ). Consistent columns (labelsAfter rows w j) (smallestAfter rows w j) (largestAfter rows w j) set) (sym at-placed)
+      (record { tallied = tallied-after rows w k small o columns across j h; tracked = tracked-after j h }))))

@@ -15,15 +15,15 @@
 --   behindIn s labels front i mine w j p  p is behind j, and the vertex there is such a c
 --   lastOf s labels front i mine w j k    the first such c: by position behind j, where there is none by number
 --   fillIn s rows t m p labels free   the m vertices chosen from position p on
---   BothWays rows                 every link goes both ways
---   Replayable rows w k labels smallest largest   the first k entries of w are distinct vertices of a two-way graph of at most 64, the labels
---                                 are empty, and there is no smallest and no largest position
---   Searchable rows w k labels smallest largest placed free j   the first k entries of w are vertices, j is one of these positions, free the
+--   Replayable rows columns w k labels smallest largest   the first k entries of w are distinct vertices of a graph of at most 64, with these
+--                                 columns; the labels are empty, and there is no smallest and no largest position
+--   Searchable rows columns w k labels smallest largest placed free j   the first k entries of w are vertices, j is one of these positions, free the
 --                                 vertices that are unplaced at its turn, and what is kept beside the labels agrees with them
 --   Positioned w k j i            w has k positions, j is one of them, and i is the number of a bit of a label
 --   Along rows p labels smallest largest placed free   words and bytes are those after the p vertices of an ordering
---   Fillable rows t tail k labels smallest largest placed free reached   t is a tie-break, tail has room for the vertices from position k on,
---                                 words and bytes are those after k vertices, and nobody outside `reached` has a label
+--   Fillable rows columns t tail k labels smallest largest placed free reached   the graph has these columns, t is a tie-break, tail has room for
+--                                 the vertices from position k on, words and bytes are those after k vertices, and nobody outside `reached` has
+--                                 a label
 use Prim.Native.Nat.{ℕ, zero, suc, _+_, _-_, _≤_, _<_}
 use mathlib.Core.Path.{_≡_}
 use mathlib.Core.Bool.{Bool, cond, not, _&&_}
@@ -35,6 +35,7 @@ use Rattle.bitset.specs.Word.{member, inserted, removed, united, common, fullBe
 use Rattle.searches.specs.Kind.{Search}
 use Rattle.searches.specs.Ordering.{arcs, at, IsOrdering, IsFullOrdering}
 use Rattle.searches.specs.Violation.{third, Verdict, fails}
+use Rattle.steps.specs.Columns.{Transposed}
 use Rattle.labels.specs.Words.{Consistent, unexcusedIn, labelWith, smallestWith, largestWith, spreadBy, spreadTo, beatenIn, chosenIn, Covers}
 
 unfoldable pub keptAfter : (ℕ → ℕ → ℕ) → ℕ → List ℕ → List ℕ → ℕ → List ℕ
@@ -107,28 +108,25 @@ module _ (s : Search) where
       let v = chosenIn s labels free t in
       v ∷ fillIn rows t m (suc p) (spreadTo (getD rows v 0) p (length rows) labels) (removed free v)
 
-abbrev pub BothWays : List ℕ → Type 0
-BothWays rows = (u v : ℕ) → u < length rows → v < length rows → arcs rows u v ≡ arcs rows v u
-
-pub record Replayable (rows w : List ℕ) (k : ℕ) (labels smallest largest : List ℕ) : Type 0 where
+pub record Replayable (rows columns w : List ℕ) (k : ℕ) (labels smallest largest : List ℕ) : Type 0 where
   pub long : k ≤ length w
   pub fits : k ≤ length rows
   pub small : length rows ≤ 64
   pub vertices : (p : ℕ) → p < k → at w p < length rows
   pub distinct : (p q : ℕ) → p < q → q < k → at w p ≡ at w q → ⊥
-  pub both-ways : BothWays rows
+  pub turned : Transposed rows columns
   pub empty : labels ≡ replicate 64 0
   pub no-smallest : smallest ≡ replicate 64 64
   pub no-largest : largest ≡ replicate 64 0
 
-pub record Searchable (rows w : List ℕ) (k : ℕ) (labels smallest largest : List ℕ) (placed free j : ℕ) : Type 0 where
+pub record Searchable (rows columns w : List ℕ) (k : ℕ) (labels smallest largest : List ℕ) (placed free j : ℕ) : Type 0 where
   pub long : k ≤ length w
   pub inside : j < k
   pub fits : k ≤ length rows
   pub small : length rows ≤ 64
   pub vertices : (p : ℕ) → p < k → at w p < length rows
   pub unplaced : free ≡ freeAfter (length rows) w j
-  pub consistent : Consistent rows labels smallest largest placed
+  pub consistent : Consistent columns labels smallest largest placed
 
 pub record Positioned (w : List ℕ) (k j i : ℕ) : Type 0 where
   pub long : k ≤ length w
@@ -145,10 +143,10 @@ pub record Along (rows : List ℕ) (p : ℕ) (labels smallest largest : List ℕ
   pub set : placed ≡ placedAfter walk p
   pub unplaced : free ≡ freeAfter (length rows) walk p
 
-pub record Fillable (rows t tail : List ℕ) (k : ℕ) (labels smallest largest : List ℕ) (placed free reached : ℕ) : Type 0 where
+pub record Fillable (rows columns t tail : List ℕ) (k : ℕ) (labels smallest largest : List ℕ) (placed free reached : ℕ) : Type 0 where
   pub fits : k ≤ length rows
   pub small : length rows ≤ 64
-  pub both-ways : BothWays rows
+  pub turned : Transposed rows columns
   pub names : IsFullOrdering (length rows) t
   pub room : length rows - k ≤ length tail
   pub along : Along rows k labels smallest largest placed free

@@ -10,10 +10,11 @@ ghost use Rattle.searches.specs.Kind.{searchOf};
 ghost use Rattle.steps.specs.Steps.{fillIn, Fillable};
 
 // Writes the vertices that carry on from position `k` into `tail`, whose first bytes are the positions from `k` on; `labels`, `smallest`,
-// `largest`, `placed`, `free` and `reached` are those after the first `k`.
+// `largest`, `placed`, `free` and `reached` are those after the first `k`. `columns` are the rows, transposed.
 pub fn fill(
     kind: Kind,
     rows: &[u64],
+    columns: &[u64],
     tie_break: &[u8],
     tail: &mut [u8],
     k: usize,
@@ -24,7 +25,7 @@ pub fn fill(
     free: u64,
     reached: u64,
 )
-    requires { ⌜ Fillable (now rows) (now «tie_break») (now tail) k (now labels) (now smallest) (now largest) placed free reached ⌝ }
+    requires { ⌜ Fillable (now rows) (now columns) (now «tie_break») (now tail) k (now labels) (now smallest) (now largest) placed free reached ⌝ }
     ensures { λ r. ⌜
         now (tail .exit)
         ≡ fillIn (searchOf (kind .0)) (now (rows .entry)) (now («tie_break» .entry)) (length (now (rows .entry)) - k) k (now (labels .entry)) free
@@ -38,7 +39,7 @@ pub fn fill(
     for i in 0..count {
         let v = labels::choice::choose(
             kind,
-            rows,
+            columns,
             labels,
             smallest,
             largest,

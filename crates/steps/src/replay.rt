@@ -19,17 +19,18 @@ pub struct Placed {
 }
 
 // Places the first `k` vertices of `ordering` up to the first that was not offered. `labels` comes in empty, `smallest` and `largest` without a
-// position (64 and 0); they go out with the labels and the running values of that moment.
+// position (64 and 0); they go out with the labels and the running values of that moment. `columns` are the rows, transposed.
 pub fn replay(
     kind: Kind,
     rows: &[u64],
+    columns: &[u64],
     ordering: &[u8],
     k: usize,
     labels: &mut [u64; 64],
     smallest: &mut [u8; 64],
     largest: &mut [u8; 64],
 ) -> Placed
-    requires { ⌜ Replayable (now rows) (now ordering) k (now labels) (now smallest) (now largest) ⌝ }
+    requires { ⌜ Replayable (now rows) (now columns) (now ordering) k (now labels) (now smallest) (now largest) ⌝ }
     ensures count { λ r. ⌜ r .count ≡ firstBelow k (stopsAt (searchOf (kind .0)) (now (rows .entry)) (now (ordering .entry))) ⌝ }
     ensures set { λ r. ⌜ r .set ≡ placedAfter (now (ordering .entry)) (r .count) ⌝ }
     ensures free { λ r. ⌜ r .free ≡ freeAfter (length (now (rows .entry))) (now (ordering .entry)) (r .count) ⌝ }
@@ -43,10 +44,10 @@ pub fn replay(
     let mut reached = 0u64;
     for j in 0..k {
         let b = vertex_at(ordering, Position(j));
-        let mine = profile_of(kind, rows, labels, smallest, largest, set, b);
+        let mine = profile_of(kind, columns, labels, smallest, largest, set, b);
         if labels::is_beaten(
             kind,
-            rows,
+            columns,
             labels,
             smallest,
             largest,

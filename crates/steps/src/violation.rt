@@ -34,7 +34,7 @@ fn front_of(rows: &[u64], free: u64, a: Vertex, b: Vertex) -> u64
 // excuses position `i` against its label.
 fn completes(
     kind: Kind,
-    rows: &[u64],
+    columns: &[u64],
     labels: &[u64; 64],
     smallest: &[u8; 64],
     largest: &[u8; 64],
@@ -44,7 +44,7 @@ fn completes(
     mine: Profile,
     c: Vertex,
 ) -> bool
-    requires { ⌜ (i .0 < 64) × (mine ≡ profileOf (searchOf (kind .0)) (mine .label)) × Consistent (now rows) (now labels) (now smallest) (now largest) placed ⌝ }
+    requires { ⌜ (i .0 < 64) × (mine ≡ profileOf (searchOf (kind .0)) (mine .label)) × Consistent (now columns) (now labels) (now smallest) (now largest) placed ⌝ }
     ensures { λ r. ⌜ r ≡ completesIn (searchOf (kind .0)) (now (labels .entry)) front (i .0) (mine .label) (c .0) ⌝ }
 {
     let last = c.0 as usize;
@@ -54,7 +54,7 @@ fn completes(
     labels::is_unexcused(
         kind,
         i,
-        profile_of(kind, rows, labels, smallest, largest, placed, c),
+        profile_of(kind, columns, labels, smallest, largest, placed, c),
         mine,
     )
 }
@@ -62,7 +62,7 @@ fn completes(
 // Of the vertices that complete a violation the one with the smallest number; 64 where there is none.
 fn first_by_number(
     kind: Kind,
-    rows: &[u64],
+    columns: &[u64],
     labels: &[u64; 64],
     smallest: &[u8; 64],
     largest: &[u8; 64],
@@ -71,7 +71,7 @@ fn first_by_number(
     i: Position,
     mine: Profile,
 ) -> Vertex
-    requires { ⌜ (i .0 < 64) × (mine ≡ profileOf (searchOf (kind .0)) (mine .label)) × Consistent (now rows) (now labels) (now smallest) (now largest) placed ⌝ }
+    requires { ⌜ (i .0 < 64) × (mine ≡ profileOf (searchOf (kind .0)) (mine .label)) × Consistent (now columns) (now labels) (now smallest) (now largest) placed ⌝ }
     ensures { λ r. ⌜ r .0 ≡ firstBelow 64 (completesIn (searchOf (kind .0)) (now (labels .entry)) front (i .0) (mine .label)) ⌝ }
 {
     let mut rest = front;
@@ -80,7 +80,7 @@ fn first_by_number(
         if labels::is_unexcused(
             kind,
             i,
-            profile_of(kind, rows, labels, smallest, largest, placed, c),
+            profile_of(kind, columns, labels, smallest, largest, placed, c),
             mine,
         ) {
             return c;
@@ -93,7 +93,7 @@ fn first_by_number(
 // The first position behind `j` and below `k` with a vertex that completes a violation; `k` where there is none.
 fn first_by_position(
     kind: Kind,
-    rows: &[u64],
+    columns: &[u64],
     ordering: &[u8],
     k: usize,
     labels: &[u64; 64],
@@ -105,7 +105,7 @@ fn first_by_position(
     i: Position,
     mine: Profile,
 ) -> Position
-    requires { ⌜ Positioned (now ordering) k (j .0) (i .0) × (mine ≡ profileOf (searchOf (kind .0)) (mine .label)) × Consistent (now rows) (now labels) (now smallest) (now largest) placed ⌝ }
+    requires { ⌜ Positioned (now ordering) k (j .0) (i .0) × (mine ≡ profileOf (searchOf (kind .0)) (mine .label)) × Consistent (now columns) (now labels) (now smallest) (now largest) placed ⌝ }
     ensures { λ r. ⌜ r .0 ≡ firstBelow k (behindIn (searchOf (kind .0)) (now (labels .entry)) front (i .0) (mine .label) (now (ordering .entry)) (j .0)) ⌝ }
 {
     let middle = j.0;
@@ -114,7 +114,7 @@ fn first_by_position(
         let c = vertex_at(ordering, Position(p));
         if completes(
             kind,
-            rows,
+            columns,
             labels,
             smallest,
             largest,
@@ -133,7 +133,7 @@ fn first_by_position(
 // The third vertex of the first violation: by position behind `j`, and where none is found there by number.
 fn first_last(
     kind: Kind,
-    rows: &[u64],
+    columns: &[u64],
     ordering: &[u8],
     k: usize,
     labels: &[u64; 64],
@@ -145,12 +145,12 @@ fn first_last(
     i: Position,
     mine: Profile,
 ) -> Vertex
-    requires { ⌜ Positioned (now ordering) k (j .0) (i .0) × (mine ≡ profileOf (searchOf (kind .0)) (mine .label)) × Consistent (now rows) (now labels) (now smallest) (now largest) placed ⌝ }
+    requires { ⌜ Positioned (now ordering) k (j .0) (i .0) × (mine ≡ profileOf (searchOf (kind .0)) (mine .label)) × Consistent (now columns) (now labels) (now smallest) (now largest) placed ⌝ }
     ensures { λ r. ⌜ r .0 ≡ lastOf (searchOf (kind .0)) (now (labels .entry)) front (i .0) (mine .label) (now (ordering .entry)) (j .0) k ⌝ }
 {
     let position = first_by_position(
         kind,
-        rows,
+        columns,
         ordering,
         k,
         labels,
@@ -167,7 +167,7 @@ fn first_last(
     }
     first_by_number(
         kind,
-        rows,
+        columns,
         labels,
         smallest,
         largest,
@@ -182,6 +182,7 @@ fn first_last(
 fn first_first(
     kind: Kind,
     rows: &[u64],
+    columns: &[u64],
     ordering: &[u8],
     k: usize,
     labels: &[u64; 64],
@@ -191,20 +192,20 @@ fn first_first(
     free: u64,
     j: Position,
 ) -> Position
-    requires { ⌜ Searchable (now rows) (now ordering) k (now labels) (now smallest) (now largest) placed free (j .0) ⌝ }
+    requires { ⌜ Searchable (now rows) (now columns) (now ordering) k (now labels) (now smallest) (now largest) placed free (j .0) ⌝ }
     ensures { λ r. ⌜
         r .0 ≡ firstBelow (j .0) (firstIn (searchOf (kind .0)) (now (rows .entry)) (now (ordering .entry)) (now (labels .entry)) free (j .0) k)
         ⌝ }
 {
     let b = vertex_at(ordering, j);
-    let mine = profile_of(kind, rows, labels, smallest, largest, placed, b);
+    let mine = profile_of(kind, columns, labels, smallest, largest, placed, b);
     let middle = j.0;
     for i in 0..middle {
         let a = vertex_at(ordering, Position(i));
         let front = front_of(rows, free, a, b);
         let c = first_by_number(
             kind,
-            rows,
+            columns,
             labels,
             smallest,
             largest,
@@ -221,10 +222,11 @@ fn first_first(
 }
 
 // The first violation with the vertex at position `j`, which has one. `labels`, `smallest`, `largest`, `placed` and
-// `free` are those of its turn.
+// `free` are those of its turn, `columns` the rows, transposed.
 pub fn first_violation(
     kind: Kind,
     rows: &[u64],
+    columns: &[u64],
     ordering: &[u8],
     k: usize,
     labels: &[u64; 64],
@@ -234,7 +236,7 @@ pub fn first_violation(
     free: u64,
     j: Position,
 ) -> Violation
-    requires { ⌜ Searchable (now rows) (now ordering) k (now labels) (now smallest) (now largest) placed free (j .0) × T (anyBelow (j .0) (firstIn (searchOf (kind .0)) (now rows) (now ordering) (now labels) free (j .0) k)) ⌝ }
+    requires { ⌜ Searchable (now rows) (now columns) (now ordering) k (now labels) (now smallest) (now largest) placed free (j .0) × T (anyBelow (j .0) (firstIn (searchOf (kind .0)) (now rows) (now ordering) (now labels) free (j .0) k)) ⌝ }
     ensures { λ r. ⌜
         verdictOf (Judgement.Fails r)
         ≡ firstFault (searchOf (kind .0)) (now (rows .entry)) (now (ordering .entry)) (now (labels .entry)) free (j .0) k
@@ -243,6 +245,7 @@ pub fn first_violation(
     let i = first_first(
         kind,
         rows,
+        columns,
         ordering,
         k,
         labels,
@@ -255,10 +258,10 @@ pub fn first_violation(
     let a = vertex_at(ordering, i);
     let b = vertex_at(ordering, j);
     let front = front_of(rows, free, a, b);
-    let mine = profile_of(kind, rows, labels, smallest, largest, placed, b);
+    let mine = profile_of(kind, columns, labels, smallest, largest, placed, b);
     let c = first_last(
         kind,
-        rows,
+        columns,
         ordering,
         k,
         labels,

@@ -1,5 +1,6 @@
 -- What the calls hand back, from the answer.
 --   next-handed, kept-handed         the next state where nothing is refused, else the one that is kept
+--   mark-handed                      the mark stays
 --   place-room, take-back-room       there is a position to write
 --   set-same-test, offered-whole, offered-refused    the offered set, from the words of the moment
 -- Assumes nothing.
@@ -25,6 +26,12 @@ next-handed next kept e = ap (λ (answer : Option ℕ). unlessRefused answer nex
 pub kept-handed : {answer : Option ℕ} (next kept : Traversal) {r : ℕ} → some r ≡ answer → kept ≡ unlessRefused answer next kept
 unfolding unlessRefused
 kept-handed next kept e = ap (λ (answer : Option ℕ). unlessRefused answer next kept) e
+
+-- whichever it is, it has the mark that both have
+pub mark-handed : (answer : Option ℕ) (next kept : Traversal) → next .mark ≡ kept .mark → unlessRefused answer next kept .mark ≡ kept .mark
+unfolding unlessRefused
+mark-handed none next kept same = same
+mark-handed (some r) next kept same = refl
 
 -- a number that does not equal another
 differs : {a b : ℕ} → (T (eqb a b) → ⊥) → a ≡ b → ⊥

@@ -20,6 +20,7 @@ use Rattle.searches.specs.Kind.{searchOf}
 use Rattle.searches.specs.Ordering.{arcs, at, placed, IsOrdering}
 use Rattle.searches.specs.Run.{offered}
 use Rattle.searches.specs.Violation.{passes, judge}
+use Rattle.searches.specs.declared.Mark.{Mark}
 use Rattle.searches.specs.Answer.{openTests, Accepts, Refuses, openAnswer}
 use Rattle.searches.proofs.Ordering.{ordering-fits, all-placed, length-grown, grown-agree}
 use Rattle.searches.proofs.Run.{offered-out, Greedy, greedy-ordering, greedy-agree, greedy-grown}
@@ -64,21 +65,21 @@ padded-shrunk u x h =
 
 -- ---- an open walk that holds w
 
-module _ (kind : ℕ) (rows : List ℕ) (valid : Accepts (openTests kind rows)) where
+module _ (kind : ℕ) (mark : Mark) (rows : List ℕ) (valid : Accepts (openTests kind mark rows)) where
   -- each vertex was offered at its time
   abbrev pub Sound : List ℕ → Type 0
   Sound w = Greedy (searchOf kind) (arcs rows) (length rows) w (length w)
 
-  pub holding-plan : (w : List ℕ) → plan (holding kind rows w) ≡ rows
+  pub holding-plan : (w : List ℕ) → plan (holding kind mark rows w) ≡ rows
   unfolding plan holding
   holding-plan w = take-append-seam rows (replicate (64 - length rows) 0)
 
-  pub holding-walk : (w : List ℕ) → walk (holding kind rows w) ≡ w
+  pub holding-walk : (w : List ℕ) → walk (holding kind mark rows w) ≡ w
   unfolding walk holding
   holding-walk w = take-append-seam w (replicate (64 - length w) 0)
 
   small : length rows ≤ 64
-  small = valid-small kind rows valid
+  small = valid-small kind mark rows valid
 
   module _ (w : List ℕ) (sound : Sound w) where
     pub distinct : IsOrdering (length rows) w (length w)
@@ -90,15 +91,15 @@ module _ (kind : ℕ) (rows : List ℕ) (valid : Accepts (openTests kind rows)) 
     pub passing : judge (searchOf kind) (arcs rows) (length rows) w (length w) ≡ passes
     passing = greedy-passes (searchOf kind) (arcs rows) (length rows) w (length w) (omega arith) sound
 
-    pub holding-full : (length (holding kind rows w .rows) ≡ 64) × (length (holding kind rows w .ordering) ≡ 64)
+    pub holding-full : (length (holding kind mark rows w .rows) ≡ 64) × (length (holding kind mark rows w .ordering) ≡ 64)
     unfolding holding
     holding-full = (padded-length rows small, padded-length w (omega (arith, fits, small)))
 
-    holding-conditions : WellFormed (holding kind rows w)
+    holding-conditions : WellFormed (holding kind mark rows w)
     unfolding holding
     holding-conditions = record {
       points = small;
-      valid = subst (λ (r : List ℕ). Accepts (openTests kind r)) (sym (holding-plan w)) valid;
+      valid = subst (λ (r : List ℕ). Accepts (openTests kind mark r)) (sym (holding-plan w)) valid;
       distinct = subst (λ (x : List ℕ). IsOrdering (length rows) x (length w)) (sym (holding-walk w)) distinct;
       passing =
           ap₂ (λ (r x : List ℕ). judge (searchOf kind) (arcs r) (length rows) x (length w)) (holding-plan w) (holding-walk w) ∙ passing;
@@ -106,10 +107,10 @@ module _ (kind : ℕ) (rows : List ℕ) (valid : Accepts (openTests kind rows)) 
       places-unused = padded-unused w;
     }
 
-    pub holding-formed : T (wellFormed (holding kind rows w))
-    holding-formed = well-formed-in (holding kind rows w) (holding-full .0) (holding-full .1) holding-conditions
+    pub holding-formed : T (wellFormed (holding kind mark rows w))
+    holding-formed = well-formed-in (holding kind mark rows w) (holding-full .0) (holding-full .1) holding-conditions
 
-    pub holding-offers : (v : ℕ) → offers (holding kind rows w) v ≡ offered (searchOf kind) (arcs rows) (length rows) w (length w) v
+    pub holding-offers : (v : ℕ) → offers (holding kind mark rows w) v ≡ offered (searchOf kind) (arcs rows) (length rows) w (length w) v
     unfolding offers holding
     holding-offers v =
         ap₂ (λ (r x : List ℕ). offered (searchOf kind) (arcs r) (length rows) x (length w) v) (holding-plan w) (holding-walk w)
@@ -117,7 +118,7 @@ module _ (kind : ℕ) (rows : List ℕ) (valid : Accepts (openTests kind rows)) 
     -- ---- placing
 
     -- an offered vertex is not refused
-    offered-accepted : (v : ℕ) → T (offered (searchOf kind) (arcs rows) (length rows) w (length w) v) → Accepts (placeTests (holding kind rows w) v)
+    offered-accepted : (v : ℕ) → T (offered (searchOf kind) (arcs rows) (length rows) w (length w) v) → Accepts (placeTests (holding kind mark rows w) v)
     unfolding placeTests holding
     offered-accepted v t =
         let o = offered-out (searchOf kind) (arcs rows) (length rows) w (length w) v t in
@@ -128,43 +129,43 @@ module _ (kind : ℕ) (rows : List ℕ) (valid : Accepts (openTests kind rows)) 
         (all-placed (length rows) (subst (λ (m : ℕ). IsOrdering (length rows) w m) all distinct) v (o .vertex)))
         in
         let a-vertex : T (leb (length rows) v) → ⊥ = λ x. omega (arith, leb→le (length rows) v x, o .vertex) in
-        let unplaced : T (placed (walk (holding kind rows w)) (length w) v) → ⊥ =
+        let unplaced : T (placed (walk (holding kind mark rows w)) (length w) v) → ⊥ =
         λ x. o .unplaced (subst (λ (l : List ℕ). T (placed l (length w) v)) (holding-walk w) x)
         in
-        let is-offered : T (not (offers (holding kind rows w) v)) → ⊥ =
-        λ x. T-not (offers (holding kind rows w) v) x (subst (λ (b : Bool). T b) (sym (holding-offers v)) t)
+        let is-offered : T (not (offers (holding kind mark rows w) v)) → ⊥ =
+        λ x. T-not (offers (holding kind mark rows w) v) x (subst (λ (b : Bool). T b) (sym (holding-offers v)) t)
         in
-        ((λ x. T-not (wellFormed (holding kind rows w)) x holding-formed), (some-left, (a-vertex, (unplaced, (is-offered, tt)))))
+        ((λ x. T-not (wellFormed (holding kind mark rows w)) x holding-formed), (some-left, (a-vertex, (unplaced, (is-offered, tt)))))
 
     pub sound-grown : (v : ℕ) → T (offered (searchOf kind) (arcs rows) (length rows) w (length w) v) → Sound (w ++ v ∷ [])
     sound-grown v t =
         subst (λ (m : ℕ). Greedy (searchOf kind) (arcs rows) (length rows) (w ++ v ∷ []) m) (sym (length-grown w v))
         (greedy-grown (searchOf kind) (arcs rows) (length rows) w v sound t)
 
-    pub place-accepted : (v : ℕ) → T (offered (searchOf kind) (arcs rows) (length rows) w (length w) v) → placeAnswer (holding kind rows w) v ≡ none
+    pub place-accepted : (v : ℕ) → T (offered (searchOf kind) (arcs rows) (length rows) w (length w) v) → placeAnswer (holding kind mark rows w) v ≡ none
     unfolding placeAnswer
-    place-accepted v t = accepts-none (placeTests (holding kind rows w) v) (offered-accepted v t)
+    place-accepted v t = accepts-none (placeTests (holding kind mark rows w) v) (offered-accepted v t)
 
     pub grown-offered : (v : ℕ) → T (offered (searchOf kind) (arcs rows) (length rows) w (length w) v)
-        → grown (holding kind rows w) v ≡ holding kind rows (w ++ v ∷ [])
+        → grown (holding kind mark rows w) v ≡ holding kind mark rows (w ++ v ∷ [])
     unfolding grown holding
     grown-offered v t =
-        sym (next-handed _ (holding kind rows w) (sym (place-accepted v t)))
-        ∙ ap₂ (λ (k : ℕ) (o : List ℕ). state (record { 0 = kind }) (length rows) (rows ++ replicate (64 - length rows) 0) k o)
+        sym (next-handed _ (holding kind mark rows w) (sym (place-accepted v t)))
+        ∙ ap₂ (λ (k : ℕ) (o : List ℕ). state (record { 0 = kind }) mark (length rows) (rows ++ replicate (64 - length rows) 0) k o)
         (sym (length-grown w v ∙ sym (add-one (length w))))
-        (padded-grown w v (omega (arith, place-room (holding kind rows w) v (sym (place-accepted v t)))))
+        (padded-grown w v (omega (arith, place-room (holding kind mark rows w) v (sym (place-accepted v t)))))
 
     pub grown-kept : (v : ℕ) → (T (offered (searchOf kind) (arcs rows) (length rows) w (length w) v) → ⊥)
-        → grown (holding kind rows w) v ≡ holding kind rows w
+        → grown (holding kind mark rows w) v ≡ holding kind mark rows w
     unfolding grown placeAnswer placeTests
-    grown-kept v out = go (accepts-or-refuses (placeTests (holding kind rows w) v))
+    grown-kept v out = go (accepts-or-refuses (placeTests (holding kind mark rows w) v))
       where
-        go : Accepts (placeTests (holding kind rows w) v) ⊎ ((r : ℕ) × Refuses r (placeTests (holding kind rows w) v))
-            → grown (holding kind rows w) v ≡ holding kind rows w
+        go : Accepts (placeTests (holding kind mark rows w) v) ⊎ ((r : ℕ) × Refuses r (placeTests (holding kind mark rows w) v))
+            → grown (holding kind mark rows w) v ≡ holding kind mark rows w
         go (inl a) =
             absurd (out (subst (λ (b : Bool). T b) (holding-offers v)
-            (not-not (offers (holding kind rows w) v) (not-T (not (offers (holding kind rows w) v)) (a .1 .1 .1 .1 .0)))))
-        go (inr x) = sym (kept-handed _ (holding kind rows w) (sym (refuses-first (placeTests (holding kind rows w) v) (x .0) (x .1))))
+            (not-not (offers (holding kind mark rows w) v) (not-T (not (offers (holding kind mark rows w) v)) (a .1 .1 .1 .1 .0)))))
+        go (inr x) = sym (kept-handed _ (holding kind mark rows w) (sym (refuses-first (placeTests (holding kind mark rows w) v) (x .0) (x .1))))
 
   -- ---- taking back
 
@@ -173,50 +174,50 @@ module _ (kind : ℕ) (rows : List ℕ) (valid : Accepts (openTests kind rows)) 
       greedy-agree (searchOf kind) (arcs rows) (length rows) (length u) (u ++ x ∷ []) u (grown-agree u x)
       (λ j l. g j (omega (arith, length-grown u x)))
 
-  pub shrunk-before : (u : List ℕ) (x : ℕ) → Sound (u ++ x ∷ []) → shrunk (holding kind rows (u ++ x ∷ [])) ≡ holding kind rows u
+  pub shrunk-before : (u : List ℕ) (x : ℕ) → Sound (u ++ x ∷ []) → shrunk (holding kind mark rows (u ++ x ∷ [])) ≡ holding kind mark rows u
   unfolding shrunk takeBackAnswer takeBackTests holding
   shrunk-before u x g =
       let w = u ++ x ∷ [] in
       let last : length w - 1 ≡ length u = omega (arith, length-grown u x) in
-      sym (next-handed _ (holding kind rows w) (sym (accepts-none (takeBackTests (holding kind rows w))
-      ((λ y. T-not (wellFormed (holding kind rows w)) y (holding-formed w g)), (λ y. omega (arith, eqb→eq (length w) 0 y, length-grown u x), tt)))))
-      ∙ ap (λ (m : ℕ). state (record { 0 = kind }) (length rows) (rows ++ replicate (64 - length rows) 0) m (set (w ++ replicate (64 - length w) 0) m 0)) last
-      ∙ ap (λ (o : List ℕ). state (record { 0 = kind }) (length rows) (rows ++ replicate (64 - length rows) 0) (length u) o)
+      sym (next-handed _ (holding kind mark rows w) (sym (accepts-none (takeBackTests (holding kind mark rows w))
+      ((λ y. T-not (wellFormed (holding kind mark rows w)) y (holding-formed w g)), (λ y. omega (arith, eqb→eq (length w) 0 y, length-grown u x), tt)))))
+      ∙ ap (λ (m : ℕ). state (record { 0 = kind }) mark (length rows) (rows ++ replicate (64 - length rows) 0) m (set (w ++ replicate (64 - length w) 0) m 0)) last
+      ∙ ap (λ (o : List ℕ). state (record { 0 = kind }) mark (length rows) (rows ++ replicate (64 - length rows) 0) (length u) o)
       (padded-shrunk u x (omega (arith, length-grown u x, fits w g, small)))
 
-  pub shrunk-nothing : shrunk (holding kind rows []) ≡ holding kind rows []
+  pub shrunk-nothing : shrunk (holding kind mark rows []) ≡ holding kind mark rows []
   unfolding shrunk takeBackAnswer takeBackTests holding
   shrunk-nothing =
-      sym (kept-handed _ (holding kind rows []) (sym (refuses-first (takeBackTests (holding kind rows [])) 17
-      (inr ((λ y. T-not (wellFormed (holding kind rows [])) y (holding-formed [] (λ j l. absurd (omega arith)))), inl (refl, tt))))))
+      sym (kept-handed _ (holding kind mark rows []) (sym (refuses-first (takeBackTests (holding kind mark rows [])) 17
+      (inr ((λ y. T-not (wellFormed (holding kind mark rows [])) y (holding-formed [] (λ j l. absurd (omega arith)))), inl (refl, tt))))))
 
   -- ---- all three, for any ordering
 
-  pub opened-holding : opened kind rows ≡ holding kind rows []
+  pub opened-holding : opened kind mark rows ≡ holding kind mark rows []
   unfolding opened openAnswer holding
-  opened-holding = sym (next-handed _ nothingOpen (sym (accepts-none (openTests kind rows) valid)))
+  opened-holding = sym (next-handed _ nothingOpen (sym (accepts-none (openTests kind mark rows) valid)))
 
   pub grown-holding : (w : List ℕ) → Sound w → (v : ℕ)
-      → (grown (holding kind rows w) v ≡ holding kind rows (remains (searchOf kind) (arcs rows) (length rows) w (placing v)))
+      → (grown (holding kind mark rows w) v ≡ holding kind mark rows (remains (searchOf kind) (arcs rows) (length rows) w (placing v)))
       × Sound (remains (searchOf kind) (arcs rows) (length rows) w (placing v))
   unfolding remains
   grown-holding w sound v = go (decided (offered (searchOf kind) (arcs rows) (length rows) w (length w) v))
     where
       go : T (offered (searchOf kind) (arcs rows) (length rows) w (length w) v) ⊎ (T (offered (searchOf kind) (arcs rows) (length rows) w (length w) v) → ⊥)
-          → (grown (holding kind rows w) v ≡ holding kind rows (remains (searchOf kind) (arcs rows) (length rows) w (placing v)))
+          → (grown (holding kind mark rows w) v ≡ holding kind mark rows (remains (searchOf kind) (arcs rows) (length rows) w (placing v)))
           × Sound (remains (searchOf kind) (arcs rows) (length rows) w (placing v))
       go (inl t) =
           let e = cond-yes (offered (searchOf kind) (arcs rows) (length rows) w (length w) v) (w ++ v ∷ []) w t in
-          (grown-offered w sound v t ∙ ap (λ (x : List ℕ). holding kind rows x) (sym e), subst (λ (x : List ℕ). Sound x) (sym e) (sound-grown w sound v t))
+          (grown-offered w sound v t ∙ ap (λ (x : List ℕ). holding kind mark rows x) (sym e), subst (λ (x : List ℕ). Sound x) (sym e) (sound-grown w sound v t))
       go (inr out) =
           let e = cond-no (offered (searchOf kind) (arcs rows) (length rows) w (length w) v) (w ++ v ∷ []) w out in
-          (grown-kept w sound v out ∙ ap (λ (x : List ℕ). holding kind rows x) (sym e), subst (λ (x : List ℕ). Sound x) (sym e) sound)
+          (grown-kept w sound v out ∙ ap (λ (x : List ℕ). holding kind mark rows x) (sym e), subst (λ (x : List ℕ). Sound x) (sym e) sound)
 
-  pub shrunk-holding : (w : List ℕ) → Sound w → (shrunk (holding kind rows w) ≡ holding kind rows (front w)) × Sound (front w)
+  pub shrunk-holding : (w : List ℕ) → Sound w → (shrunk (holding kind mark rows w) ≡ holding kind mark rows (front w)) × Sound (front w)
   unfolding front
   shrunk-holding [] sound = (shrunk-nothing, sound)
   shrunk-holding (y ∷ ys) sound = (
-    ap (λ (x : List ℕ). shrunk (holding kind rows x)) split ∙ shrunk-before u last whole ∙ ap (λ (x : List ℕ). holding kind rows x) ends,
+    ap (λ (x : List ℕ). shrunk (holding kind mark rows x)) split ∙ shrunk-before u last whole ∙ ap (λ (x : List ℕ). holding kind mark rows x) ends,
     subst (λ (x : List ℕ). Sound x) ends (sound-before u last whole),
   )
     where

@@ -1,4 +1,3 @@
-pub mod Copying
 pub mod Unused
 pub mod SetBelow
 pub mod WellFormed

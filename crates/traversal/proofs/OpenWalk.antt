@@ -18,6 +18,7 @@ use Rattle.searches.specs.Kind.{searchOf}
 use Rattle.searches.specs.Ordering.{arcs, placed, IsOrdering, IsFullOrdering}
 use Rattle.searches.specs.Violation.{passes}
 use Rattle.searches.specs.CarryOn.{grow, carryOn}
+use Rattle.searches.specs.declared.Mark.{Mark}
 use Rattle.searches.specs.Answer.{openTests, Accepts, Refuses, judgeAnswer, openAnswer, carryOnOutput}
 use Rattle.searches.proofs.Ordering.{all-placed}
 use Rattle.searches.proofs.Run.{offered-out}
@@ -28,7 +29,7 @@ use Rattle.traversal.specs.State.{plan, walk, wellFormed, WellFormed, of
 use Rattle.traversal.specs.Moves.{Move, placing, takingBack, moved, after, remains, remaining, holding, lastOffered, following}
 use Rattle.traversal.proofs.SetBelow.{set-none}
 use Rattle.traversal.proofs.WellFormed.{well-formed-out, well-formed-in}
-use Rattle.traversal.proofs.Answered.{kept-handed}
+use Rattle.traversal.proofs.Answered.{kept-handed, mark-handed}
 use Rattle.traversal.proofs.Holding.{Sound, distinct, fits, passing, holding-walk, holding-formed, opened-holding, grown-holding, shrunk-holding, place-accepted}
 use Rattle.traversal.proofs.Following.{member-offered, offered-passes, passes-offered, full-refused, last-chosen, next-offered, length-grow, following-holding}
 
@@ -67,26 +68,38 @@ pub take-back-keeps : (t : Traversal) (r : ℕ) → takeBackAnswer t ≡ some r 
 unfolding shrunk
 take-back-keeps t r e = sym (kept-handed _ t (sym e))
 
--- a refused open hands back the open walk of kind 0 with n = 0 and everything else 0
-pub open-hands-nothing : (kind : ℕ) (rows : List ℕ) (r : ℕ) → openAnswer kind rows ≡ some r → opened kind rows ≡ nothingOpen
+-- a refused open hands back the open walk of kind 0 with n = 0 and everything else 0,
+pub open-hands-nothing : (kind : ℕ) (mark : Mark) (rows : List ℕ) (r : ℕ) → openAnswer kind mark rows ≡ some r → opened kind mark rows ≡ nothingOpen
 unfolding opened
-open-hands-nothing kind rows r e = sym (kept-handed _ nothingOpen (sym e))
+open-hands-nothing kind mark rows r e = sym (kept-handed _ nothingOpen (sym e))
+
+-- 02: K4, and it is two-way
+pub refused-two-way : (kind : ℕ) (mark : Mark) (rows : List ℕ) (r : ℕ) → openAnswer kind mark rows ≡ some r → opened kind mark rows .mark ≡ Mark.TwoWay
+unfolding nothingOpen
+refused-two-way kind mark rows r e = ap (λ (t : Traversal). t .mark) (open-hands-nothing kind mark rows r e)
+
+-- 02: K4, the open walk keeps the mark: whatever it is, and whatever is placed and taken back, refused or not
+pub keeps-mark : (t : Traversal) (moves : List Move) → after t moves .mark ≡ t .mark
+unfolding after moved grown shrunk
+keeps-mark t [] = refl
+keeps-mark t (placing v ∷ moves) = keeps-mark (grown t v) moves ∙ mark-handed (placeAnswer t v) _ t refl
+keeps-mark t (takingBack ∷ moves) = keeps-mark (shrunk t) moves ∙ mark-handed (takeBackAnswer t) _ t refl
 
 -- ---- for every list of placings and takings back after open, refused ones among them
 
-module _ (kind : ℕ) (rows : List ℕ) (valid : Accepts (openTests kind rows)) where
+module _ (kind : ℕ) (mark : Mark) (rows : List ℕ) (valid : Accepts (openTests kind mark rows)) where
   abbrev left : List ℕ → List Move → List ℕ
   left = remaining (searchOf kind) (arcs rows) (length rows)
 
-  moved-holding : (w : List ℕ) → Sound kind rows valid w → (m : Move)
-      → (moved (holding kind rows w) m ≡ holding kind rows (remains (searchOf kind) (arcs rows) (length rows) w m))
-      × Sound kind rows valid (remains (searchOf kind) (arcs rows) (length rows) w m)
+  moved-holding : (w : List ℕ) → Sound kind mark rows valid w → (m : Move)
+      → (moved (holding kind mark rows w) m ≡ holding kind mark rows (remains (searchOf kind) (arcs rows) (length rows) w m))
+      × Sound kind mark rows valid (remains (searchOf kind) (arcs rows) (length rows) w m)
   unfolding moved remains
-  moved-holding w sound (placing v) = grown-holding kind rows valid w sound v
-  moved-holding w sound takingBack = shrunk-holding kind rows valid w sound
+  moved-holding w sound (placing v) = grown-holding kind mark rows valid w sound v
+  moved-holding w sound takingBack = shrunk-holding kind mark rows valid w sound
 
-  after-holding : (w : List ℕ) → Sound kind rows valid w → (moves : List Move)
-      → (after (holding kind rows w) moves ≡ holding kind rows (left w moves)) × Sound kind rows valid (left w moves)
+  after-holding : (w : List ℕ) → Sound kind mark rows valid w → (moves : List Move)
+      → (after (holding kind mark rows w) moves ≡ holding kind mark rows (left w moves)) × Sound kind mark rows valid (left w moves)
   unfolding after remaining
   after-holding w sound [] = (refl, sound)
   after-holding w sound (m ∷ moves) =
@@ -96,33 +109,38 @@ module _ (kind : ℕ) (rows : List ℕ) (valid : Accepts (openTests kind rows)) 
 
   module _ (moves : List Move) where
     abbrev now-open : Traversal
-    now-open = after (opened kind rows) moves
+    now-open = after (opened kind mark rows) moves
 
     abbrev held : List ℕ
     held = left [] moves
 
-    sound : Sound kind rows valid held
+    sound : Sound kind mark rows valid held
     sound = after-holding [] (λ j l. absurd (omega arith)) moves .1
 
     -- the open walk has this kind and these rows, holds what remains, and is 0 behind both
-    pub holds-whole : now-open ≡ holding kind rows held
-    holds-whole = ap (λ (t : Traversal). after t moves) (opened-holding kind rows valid) ∙ after-holding [] (λ j l. absurd (omega arith)) moves .0
+    pub holds-whole : now-open ≡ holding kind mark rows held
+    holds-whole = ap (λ (t : Traversal). after t moves) (opened-holding kind mark rows valid) ∙ after-holding [] (λ j l. absurd (omega arith)) moves .0
 
     -- the walk held is the placed points not taken back, in order
     pub walk-remains : walk now-open ≡ held
-    walk-remains = ap walk holds-whole ∙ holding-walk kind rows valid held
+    walk-remains = ap walk holds-whole ∙ holding-walk kind mark rows valid held
+
+    -- 02: K4, with the mark with which it was opened
+    pub mark-remains : now-open .mark ≡ mark
+    unfolding holding
+    mark-remains = ap (λ (t : Traversal). t .mark) holds-whole
 
     -- every state handed out is well formed
     pub stays-well-formed : T (wellFormed now-open)
-    stays-well-formed = subst (λ (t : Traversal). T (wellFormed t)) (sym holds-whole) (holding-formed kind rows valid held sound)
+    stays-well-formed = subst (λ (t : Traversal). T (wellFormed t)) (sym holds-whole) (holding-formed kind mark rows valid held sound)
 
     -- the offered set is exactly the points with which that walk, grown by one, passes judge
-    pub offers-exactly : (v : ℕ) → T (member (offeredSet now-open) v) ↔ (judgeAnswer kind rows (walk now-open ++ v ∷ []) ≡ passes)
+    pub offers-exactly : (v : ℕ) → T (member (offeredSet now-open) v) ↔ (judgeAnswer kind mark rows (walk now-open ++ v ∷ []) ≡ passes)
     offers-exactly v =
-        let set = ap (λ (t : Traversal). member (offeredSet t) v) holds-whole ∙ member-offered kind rows valid held sound v in
-        let grown-walk = ap (λ (w : List ℕ). judgeAnswer kind rows (w ++ v ∷ [])) walk-remains in (
-          λ t. grown-walk ∙ offered-passes kind rows valid held sound v (subst (λ (b : Bool). T b) set t),
-          λ p. subst (λ (b : Bool). T b) (sym set) (passes-offered kind rows valid held sound v (sym grown-walk ∙ p)),
+        let set = ap (λ (t : Traversal). member (offeredSet t) v) holds-whole ∙ member-offered kind mark rows valid held sound v in
+        let grown-walk = ap (λ (w : List ℕ). judgeAnswer kind mark rows (w ++ v ∷ [])) walk-remains in (
+          λ t. grown-walk ∙ offered-passes kind mark rows valid held sound v (subst (λ (b : Bool). T b) set t),
+          λ p. subst (λ (b : Bool). T b) (sym set) (passes-offered kind mark rows valid held sound v (sym grown-walk ∙ p)),
         )
 
     -- placing the last of the tie-break among the offered: no such placing is refused until all are placed,
@@ -131,10 +149,10 @@ module _ (kind : ℕ) (rows : List ℕ) (valid : Accepts (openTests kind rows)) 
       count = length rows - length held
 
       follows : (m : ℕ) → m ≤ count
-          → (following m now-open b ≡ holding kind rows (grow (searchOf kind) (arcs rows) (length rows) b m held))
-          × Sound kind rows valid (grow (searchOf kind) (arcs rows) (length rows) b m held)
+          → (following m now-open b ≡ holding kind mark rows (grow (searchOf kind) (arcs rows) (length rows) b m held))
+          × Sound kind mark rows valid (grow (searchOf kind) (arcs rows) (length rows) b m held)
       follows m l =
-          let x = following-holding kind rows valid b names m held sound (omega (arith, fits kind rows valid held sound)) in
+          let x = following-holding kind mark rows valid b names m held sound (omega (arith, fits kind mark rows valid held sound)) in
           (ap (λ (t : Traversal). following m t b) holds-whole ∙ x .0, x .1)
 
       pub placed-each : (m : ℕ) → m < count → placeAnswer (following m now-open b) (lastOffered (following m now-open b) b) ≡ none
@@ -142,24 +160,24 @@ module _ (kind : ℕ) (rows : List ℕ) (valid : Accepts (openTests kind rows)) 
           let x = follows m (omega arith) in
           let w = grow (searchOf kind) (arcs rows) (length rows) b m held in
           ap (λ (t : Traversal). placeAnswer t (lastOffered t b)) (x .0)
-          ∙ ap (λ (v : ℕ). placeAnswer (holding kind rows w) v) (last-chosen kind rows valid b names w (x .1))
-          ∙ place-accepted kind rows valid w (x .1) _ (next-offered kind rows valid b names w (x .1) (omega (arith, length-grow kind rows valid b names m held)))
+          ∙ ap (λ (v : ℕ). placeAnswer (holding kind mark rows w) v) (last-chosen kind mark rows valid b names w (x .1))
+          ∙ place-accepted kind mark rows valid w (x .1) _ (next-offered kind mark rows valid b names w (x .1) (omega (arith, length-grow kind mark rows valid b names m held)))
 
       -- then placing anything is 14,
       pub then-full : (v : ℕ) → placeAnswer (following count now-open b) v ≡ some 14
       then-full v =
           let x = follows count (omega arith) in
           ap (λ (t : Traversal). placeAnswer t v) (x .0)
-          ∙ full-refused kind rows valid (grow (searchOf kind) (arcs rows) (length rows) b count held) (x .1)
-          (length-grow kind rows valid b names count held ∙ omega (arith, fits kind rows valid held sound)) v
+          ∙ full-refused kind mark rows valid (grow (searchOf kind) (arcs rows) (length rows) b count held) (x .1)
+          (length-grow kind mark rows valid b names count held ∙ omega (arith, fits kind mark rows valid held sound)) v
 
       -- and the walk held is what carry-on writes, from that walk and by that tie-break
       pub follows-carry-on : (out : List ℕ) → length rows ≤ length out → take (length held) out ≡ held
-          → walk (following count now-open b) ≡ take (length rows) (carryOnOutput kind rows b out (length held))
+          → walk (following count now-open b) ≡ take (length rows) (carryOnOutput kind mark rows b out (length held))
       unfolding carryOn
       follows-carry-on out room front =
           let x = follows count (omega arith) in
           let begins : take (length held) out ≡ take (length held) held = front ∙ sym (take-length held) in
-          ap walk (x .0) ∙ holding-walk kind rows valid (grow (searchOf kind) (arcs rows) (length rows) b count held)
+          ap walk (x .0) ∙ holding-walk kind mark rows valid (grow (searchOf kind) (arcs rows) (length rows) b count held)
           ∙ ap (λ (w : List ℕ). grow (searchOf kind) (arcs rows) (length rows) b count w) (sym front)
-          ∙ sym (first-bytes kind rows valid held (length held) (distinct kind rows valid held sound) b out names room begins (passing kind rows valid held sound))
+          ∙ sym (first-bytes kind mark rows valid held (length held) (distinct kind mark rows valid held sound) b out names room begins (passing kind mark rows valid held sound))

@@ -13,7 +13,7 @@ use mathlib.Core.Bool.{Bool, true, false, cond, not, _&&_}
 use mathlib.Core.List.{List}
 use native.Mathlib.Omega.{arith}
 use lib.Dec.{T, leb, leb→le, le→leb, not-T, T-not}
-use lib.ListN.{length}
+use lib.ListN.{length, take, length-take}
 use lib.Seq.{length-take-le}
 use Rattle.bitset.specs.Word.{member}
 use Rattle.bitset.proofs.Tests.{and-in, and-out, is-true, cond-yes, cond-no}
@@ -25,12 +25,13 @@ use Rattle.searches.specs.Answer.{isPass, judgeAnswer}
 use Rattle.searches.proofs.Ordering.{ordering-fits}
 use Rattle.searches.proofs.Answers.{passes-accepts, accepted-ordering, ordering-accepted, judge-accepted, isPass-in, isPass-out}
 use Rattle.labels.specs.Words.{Consistent, openIn}
+use Rattle.steps.specs.Columns.{columnsOf, Transposed}
 use Rattle.steps.specs.Steps.{labelsAfter, smallestAfter, largestAfter, placedAfter, freeAfter}
 use Rattle.steps.proofs.Representation.{open-offered, free-unplaced}
 use Rattle.steps.proofs.Tracking.{consistent-after}
 use Rattle.engine.specs.declared.after.Moment.{Moment}
 use Rattle.engine.specs.Moments.{noMoment, momentOf, momentAfter}
-use Rattle.engine.proofs.Calls.{valid-both-ways}
+use Rattle.engine.proofs.Calls.{valid-turns}
 use Rattle.traversal.specs.declared.Traversal.{Traversal}
 use Rattle.traversal.proofs.Unused.{unused-out, unused-in}
 use Rattle.traversal.specs.State.{plan, walk, usedFrom, wellFormed, surveyed, WellFormed, offers}
@@ -41,7 +42,7 @@ pub record Parts (t : Traversal) : Type 0 where
   pub places : t .k ≤ t .n
   pub rows-unused : T (usedFrom (t .n) (t .rows)) → ⊥
   pub places-unused : T (usedFrom (t .k) (t .ordering)) → ⊥
-  pub passes-judge : T (isPass (judgeAnswer (t .kind .0) (plan t) (walk t)))
+  pub passes-judge : T (isPass (judgeAnswer (t .kind .0) (t .mark) (plan t) (walk t)))
 
 pub parts : (t : Traversal) → T (wellFormed t) → Parts t
 unfolding wellFormed
@@ -50,7 +51,7 @@ parts t x =
     let b = leb (t .k) (t .n) in
     let c = not (usedFrom (t .n) (t .rows)) in
     let d = not (usedFrom (t .k) (t .ordering)) in
-    let e = isPass (judgeAnswer (t .kind .0) (plan t) (walk t)) in
+    let e = isPass (judgeAnswer (t .kind .0) (t .mark) (plan t) (walk t)) in
     let abcd = and-out (a && b && c && d) e x in
     let abc = and-out (a && b && c) d (abcd .0) in
     let ab = and-out (a && b) c (abc .0) in
@@ -65,10 +66,10 @@ parts t x =
 
 -- where the others hold, the last test decides
 pub by-judge : (t : Traversal) → t .n ≤ 64 → t .k ≤ t .n → (T (usedFrom (t .n) (t .rows)) → ⊥) → (T (usedFrom (t .k) (t .ordering)) → ⊥)
-    → isPass (judgeAnswer (t .kind .0) (plan t) (walk t)) ≡ wellFormed t
+    → isPass (judgeAnswer (t .kind .0) (t .mark) (plan t) (walk t)) ≡ wellFormed t
 unfolding wellFormed
 by-judge t points places rows-unused places-unused =
-    sym (ap (λ (b : Bool). b && isPass (judgeAnswer (t .kind .0) (plan t) (walk t)))
+    sym (ap (λ (b : Bool). b && isPass (judgeAnswer (t .kind .0) (t .mark) (plan t) (walk t)))
     (is-true (leb (t .n) 64 && leb (t .k) (t .n) && not (usedFrom (t .n) (t .rows)) && not (usedFrom (t .k) (t .ordering)))
     (and-in (leb (t .n) 64 && leb (t .k) (t .n) && not (usedFrom (t .n) (t .rows))) (not (usedFrom (t .k) (t .ordering)))
     (and-in (leb (t .n) 64 && leb (t .k) (t .n)) (not (usedFrom (t .n) (t .rows)))
@@ -79,18 +80,18 @@ by-judge t points places rows-unused places-unused =
 
 pub surveyed-broken : (t : Traversal) {r : Moment} → r ≡ noMoment → (T (wellFormed t) → ⊥) → r ≡ surveyed t
 unfolding surveyed
-surveyed-broken t is broken = is ∙ sym (cond-no (wellFormed t) (momentOf (plan t) (walk t)) noMoment broken)
+surveyed-broken t is broken = is ∙ sym (cond-no (wellFormed t) (momentOf (t .mark) (plan t) (walk t)) noMoment broken)
 
-pub surveyed-judged : (t : Traversal) {r : Moment} → r ≡ momentAfter (t .kind .0) (plan t) (walk t) → isPass (judgeAnswer (t .kind .0) (plan t) (walk t)) ≡ wellFormed t
+pub surveyed-judged : (t : Traversal) {r : Moment} → r ≡ momentAfter (t .kind .0) (t .mark) (plan t) (walk t) → isPass (judgeAnswer (t .kind .0) (t .mark) (plan t) (walk t)) ≡ wellFormed t
     → r ≡ surveyed t
 unfolding surveyed momentAfter
-surveyed-judged t is decides = is ∙ ap (λ (b : Bool). cond b (momentOf (plan t) (walk t)) noMoment) decides
+surveyed-judged t is decides = is ∙ ap (λ (b : Bool). cond b (momentOf (t .mark) (plan t) (walk t)) noMoment) decides
 
 pub surveyed-passes : (t : Traversal) {r : Moment} → r ≡ surveyed t → r .passes ≡ wellFormed t
 unfolding surveyed momentOf noMoment
 surveyed-passes t is = ap (λ (m : Moment). m .passes) is ∙ go (wellFormed t)
   where
-    go : (b : Bool) → cond b (momentOf (plan t) (walk t)) noMoment .passes ≡ b
+    go : (b : Bool) → cond b (momentOf (t .mark) (plan t) (walk t)) noMoment .passes ≡ b
     go true = refl
     go false = refl
 
@@ -109,16 +110,16 @@ module _ (t : Traversal) (rows-full : length (t .rows) ≡ 64) (ordering-full : 
       let p = parts t x in
       let n = plan-length (p .points) in
       let k = walk-length (omega (arith, p .points, p .places)) in
-      let passed = isPass-out (judgeAnswer (t .kind .0) (plan t) (walk t)) (p .passes-judge) in
-      let accepted = passes-accepts (t .kind .0) (plan t) (walk t) passed in
-      let fits = accepted-ordering (t .kind .0) (plan t) (walk t) accepted in
+      let passed = isPass-out (judgeAnswer (t .kind .0) (t .mark) (plan t) (walk t)) (p .passes-judge) in
+      let accepted = passes-accepts (t .kind .0) (t .mark) (plan t) (walk t) passed in
+      let fits = accepted-ordering (t .kind .0) (t .mark) (plan t) (walk t) accepted in
       record {
         points = p .points;
         valid = fits .0;
         distinct = subst (λ (m : ℕ). IsOrdering m (walk t) (t .k)) n (subst (λ (m : ℕ). IsOrdering (length (plan t)) (walk t) m) k (fits .1));
         passing =
             ap₂ (λ (a b : ℕ). judge (searchOf (t .kind .0)) (arcs (plan t)) a (walk t) b) (sym n) (sym k)
-            ∙ sym (judge-accepted (t .kind .0) (plan t) (walk t) accepted) ∙ passed;
+            ∙ sym (judge-accepted (t .kind .0) (t .mark) (plan t) (walk t) accepted) ∙ passed;
         rows-unused = unused-out (t .n) (t .rows) (p .rows-unused);
         places-unused = unused-out (t .k) (t .ordering) (p .places-unused);
       }
@@ -133,8 +134,8 @@ module _ (t : Traversal) (rows-full : length (t .rows) ≡ 64) (ordering-full : 
       in
       subst (λ (b : Bool). T b)
       (by-judge t (x .points) fits (unused-in (t .n) (t .rows) (x .rows-unused)) (unused-in (t .k) (t .ordering) (x .places-unused)))
-      (isPass-in (judgeAnswer (t .kind .0) (plan t) (walk t))
-      (judge-accepted (t .kind .0) (plan t) (walk t) (ordering-accepted (t .kind .0) (plan t) (walk t) (x .valid) distinct)
+      (isPass-in (judgeAnswer (t .kind .0) (t .mark) (plan t) (walk t))
+      (judge-accepted (t .kind .0) (t .mark) (plan t) (walk t) (ordering-accepted (t .kind .0) (t .mark) (plan t) (walk t) (x .valid) distinct)
       ∙ ap₂ (λ (a b : ℕ). judge (searchOf (t .kind .0)) (arcs (plan t)) a (walk t) b) n k ∙ x .passing))
 
   -- ---- the words of the moment
@@ -146,20 +147,37 @@ module _ (t : Traversal) (rows-full : length (t .rows) ≡ 64) (ordering-full : 
       let p = parts t x in
       let n = plan-length (p .points) in
       let k = walk-length (omega (arith, p .points, p .places)) in
-      let there = is ∙ cond-yes (wellFormed t) (momentOf (plan t) (walk t)) noMoment x in (
+      let there = is ∙ cond-yes (wellFormed t) (momentOf (t .mark) (plan t) (walk t)) noMoment x in (
         ap (λ (m : Moment). m .labels) there ∙ ap (λ (j : ℕ). labelsAfter (plan t) (walk t) j) k,
         ap (λ (m : Moment). m .free) there ∙ ap₂ (λ (m j : ℕ). freeAfter m (walk t) j) n k,
       )
 
-  pub surveyed-consistent : {r : Moment} → r ≡ surveyed t → T (wellFormed t) → Consistent (plan t) (r .labels) (r .smallest) (r .largest) (r .placed)
+  -- the columns that come with the moment
+  pub surveyed-turned : {r : Moment} → r ≡ surveyed t → T (wellFormed t) → Transposed (plan t) (take (t .n) (r .columns))
+  unfolding surveyed momentOf
+  surveyed-turned is x =
+      let f = well-formed-out x in
+      subst (λ (columns : List ℕ). Transposed (plan t) (take (t .n) columns))
+      (sym (ap (λ (m : Moment). m .columns) (is ∙ cond-yes (wellFormed t) (momentOf (t .mark) (plan t) (walk t)) noMoment x)))
+      (subst (λ (m : ℕ). Transposed (plan t) (take m (columnsOf (t .mark) (plan t)))) (plan-length (f .points)) (valid-turns (t .kind .0) (t .mark) (plan t) (f .valid)))
+
+  -- there are n of them
+  pub surveyed-columns : {r : Moment} → r ≡ surveyed t → T (wellFormed t) → (t .n ≤ length (r .columns)) × (t .n ≡ length (take (t .n) (r .columns)))
+  surveyed-columns {r} is x =
+      let n = plan-length (parts t x .points) in
+      let across = surveyed-turned is x in
+      let many : length (take (t .n) (r .columns)) ≡ t .n = across .as-many ∙ n in
+      (omega (arith, many, length-take (t .n) (r .columns)), sym many)
+
+  pub surveyed-consistent : {r : Moment} → r ≡ surveyed t → T (wellFormed t) → Consistent (take (t .n) (r .columns)) (r .labels) (r .smallest) (r .largest) (r .placed)
   unfolding surveyed momentOf
   surveyed-consistent {r} is x =
       let f = well-formed-out x in
       let n = plan-length (f .points) in
       let k = walk-length (omega (arith, f .points, ordering-fits (t .n) (f .distinct))) in
-      let there = is ∙ cond-yes (wellFormed t) (momentOf (plan t) (walk t)) noMoment x in
+      let there = is ∙ cond-yes (wellFormed t) (momentOf (t .mark) (plan t) (walk t)) noMoment x in
       let distinct = subst (λ (m : ℕ). IsOrdering m (walk t) (t .k)) (sym n) (f .distinct) in
-      consistent-after (plan t) (walk t) (t .k) (omega (arith, f .points)) distinct (valid-both-ways (t .kind .0) (plan t) (f .valid)) (t .k) (omega arith)
+      consistent-after (plan t) (walk t) (t .k) (omega (arith, f .points)) distinct (surveyed-turned is x) (t .k) (omega arith)
       (ap (λ (m : Moment). m .labels) there ∙ ap (λ (j : ℕ). labelsAfter (plan t) (walk t) j) k)
       (ap (λ (m : Moment). m .smallest) there ∙ ap (λ (j : ℕ). smallestAfter (plan t) (walk t) j) k)
       (ap (λ (m : Moment). m .largest) there ∙ ap (λ (j : ℕ). largestAfter (plan t) (walk t) j) k)

@@ -5,7 +5,7 @@
 --   remains s arc n w m           what is left of w after one call, the call refused or not
 --   remaining s arc n w moves     of w and what is placed behind it, the vertices not taken back, in order; a placing of a vertex
 --                                 that is not offered adds none
---   holding kind rows w           the open walk of this kind that has these rows, holds w, and is 0 behind both
+--   holding kind mark rows w      the open walk of this kind and mark that has these rows, holds w, and is 0 behind both
 --   lastOffered t b               the offered vertex that stands last in the tie-break b
 --   following m t b               the open walk after m placings of that vertex
 use Prim.Native.Nat.{ℕ, zero, suc, _-_}
@@ -17,6 +17,7 @@ use Rattle.bitset.specs.Word.{member}
 use Rattle.searches.specs.Kind.{Search}
 use Rattle.searches.specs.Ordering.{at}
 use Rattle.searches.specs.Run.{offered}
+use Rattle.searches.specs.declared.Mark.{Mark}
 use Rattle.traversal.specs.declared.Traversal.{Traversal}
 use Rattle.traversal.specs.State.{state, offeredSet, grown, shrunk}
 
@@ -44,8 +45,8 @@ module _ (s : Search) (arc : ℕ → ℕ → Bool) (n : ℕ) where
   remaining w [] = w
   remaining w (m ∷ moves) = remaining (remains w m) moves
 
-unfoldable pub holding : ℕ → List ℕ → List ℕ → Traversal
-holding kind rows w = state (record { 0 = kind }) (length rows) (rows ++ replicate (64 - length rows) 0) (length w) (w ++ replicate (64 - length w) 0)
+unfoldable pub holding : ℕ → Mark → List ℕ → List ℕ → Traversal
+holding kind mark rows w = state (record { 0 = kind }) mark (length rows) (rows ++ replicate (64 - length rows) 0) (length w) (w ++ replicate (64 - length w) 0)
 
 unfoldable pub lastOffered : Traversal → List ℕ → ℕ
 lastOffered t b = at b (lastBelow (length b) (λ q. member (offeredSet t) (at b q)))

@@ -1,16 +1,16 @@
 -- The open walk: when it is well formed, and what each call answers and hands back.
---   state kind n rows k ordering     the open walk of these parts
+--   state kind mark n rows k ordering   the open walk of these parts
 --   plan t, walk t                   its graph's rows, and its ordering                                            [01: plan, walk]
 --   usedAt m l i, usedFrom m l       entry i of l is behind the first m and not 0; some of the 64 is
 --   wellFormed t                     the test;   WellFormed t   the same condition by condition                    [01: well formed]
---   surveyed t                       the placed and the unplaced vertices, the labels and the running values after the walk; none and empty where
---                                    t is not well formed
+--   surveyed t                       the placed and the unplaced vertices, the labels and the running values after the walk, and its graph's columns; none and
+--                                    empty where t is not well formed
 --   offers t v                       v is offered after the walk                                                   [01: offered]
 --   setBelow n f                     the numbers below n at which f holds, as a word
 --   placeTests, takeBackTests        what is refused: numbers and tests in 01's order                              [01: from the state]
 --   unlessRefused answer next kept   the state that a call hands back: the next one, or the one that is kept
---   nothingOpen                      the open walk of kind 0 with n = 0 and everything else 0
---   opened kind rows                 what open hands back                                                          [01: open]
+--   nothingOpen                      the two-way open walk of kind 0 with n = 0 and everything else 0
+--   opened kind mark rows            what open hands back                                                          [01: open]
 --   offeredAnswer t, offeredSet t    what offered answers
 --   placeAnswer t v, grown t v       what placing v answers, and hands back                                        [01: placing]
 --   takeBackAnswer t, shrunk t       likewise, of taking back                                                      [01: taking back]
@@ -29,12 +29,13 @@ use Rattle.searches.specs.Run.{offered}
 use Rattle.searches.specs.Violation.{passes, judge}
 use Rattle.searches.specs.Answer.{isPass, openTests, Accepts, firstRefusal, judgeAnswer, openAnswer}
 use Rattle.searches.specs.declared.Kind.{Kind}
+use Rattle.searches.specs.declared.Mark.{Mark}
 use Rattle.engine.specs.declared.after.Moment.{Moment}
 use Rattle.engine.specs.Moments.{noMoment, momentOf}
 use Rattle.traversal.specs.declared.Traversal.{Traversal}
 
-abbrev pub state : Kind → ℕ → List ℕ → ℕ → List ℕ → Traversal
-state kind n rows k ordering = record { kind = kind; n = n; rows = rows; k = k; ordering = ordering }
+abbrev pub state : Kind → Mark → ℕ → List ℕ → ℕ → List ℕ → Traversal
+state kind mark n rows k ordering = record { kind = kind; mark = mark; n = n; rows = rows; k = k; ordering = ordering }
 
 unfoldable pub plan : Traversal → List ℕ
 plan t = take (t .n) (t .rows)
@@ -53,12 +54,12 @@ usedFrom m l = anyBelow 64 (usedAt m l)
 unfoldable pub wellFormed : Traversal → Bool
 wellFormed t =
     leb (t .n) 64 && leb (t .k) (t .n) && not (usedFrom (t .n) (t .rows)) && not (usedFrom (t .k) (t .ordering))
-    && isPass (judgeAnswer (t .kind .0) (plan t) (walk t))
+    && isPass (judgeAnswer (t .kind .0) (t .mark) (plan t) (walk t))
 
 pub record WellFormed (t : Traversal) : Type 0 where
   -- its kind and plan are valid
   pub points : t .n ≤ 64
-  pub valid : Accepts (openTests (t .kind .0) (plan t))
+  pub valid : Accepts (openTests (t .kind .0) (t .mark) (plan t))
   -- its walk is distinct points of the plan, and passes
   pub distinct : IsOrdering (t .n) (walk t) (t .k)
   pub passing : judge (searchOf (t .kind .0)) (arcs (plan t)) (t .n) (walk t) (t .k) ≡ passes
@@ -67,7 +68,7 @@ pub record WellFormed (t : Traversal) : Type 0 where
   pub places-unused : (p : ℕ) → t .k ≤ p → p < 64 → at (t .ordering) p ≡ 0
 
 unfoldable pub surveyed : Traversal → Moment
-surveyed t = cond (wellFormed t) (momentOf (plan t) (walk t)) noMoment
+surveyed t = cond (wellFormed t) (momentOf (t .mark) (plan t) (walk t)) noMoment
 
 -- ---- who is offered
 
@@ -91,12 +92,12 @@ unlessRefused none next kept = next
 unlessRefused (some r) next kept = kept
 
 unfoldable pub nothingOpen : Traversal
-nothingOpen = state (record { 0 = 0 }) 0 (replicate 64 0) 0 (replicate 64 0)
+nothingOpen = state (record { 0 = 0 }) Mark.TwoWay 0 (replicate 64 0) 0 (replicate 64 0)
 
-unfoldable pub opened : ℕ → List ℕ → Traversal
-opened kind rows =
-    unlessRefused (openAnswer kind rows)
-    (state (record { 0 = kind }) (length rows) (rows ++ replicate (64 - length rows) 0) 0 (replicate 64 0)) nothingOpen
+unfoldable pub opened : ℕ → Mark → List ℕ → Traversal
+opened kind mark rows =
+    unlessRefused (openAnswer kind mark rows)
+    (state (record { 0 = kind }) mark (length rows) (rows ++ replicate (64 - length rows) 0) 0 (replicate 64 0)) nothingOpen
 
 unfoldable pub placeTests : Traversal → ℕ → List (ℕ × Bool)
 placeTests t v =
@@ -111,7 +112,7 @@ unfoldable pub placeAnswer : Traversal → ℕ → Option ℕ
 placeAnswer t v = firstRefusal (placeTests t v)
 
 unfoldable pub grown : Traversal → ℕ → Traversal
-grown t v = unlessRefused (placeAnswer t v) (state (t .kind) (t .n) (t .rows) (t .k + 1) (set (t .ordering) (t .k) v)) t
+grown t v = unlessRefused (placeAnswer t v) (state (t .kind) (t .mark) (t .n) (t .rows) (t .k + 1) (set (t .ordering) (t .k) v)) t
 
 unfoldable pub takeBackTests : Traversal → List (ℕ × Bool)
 takeBackTests t = (13, not (wellFormed t)) ∷ (17, eqb (t .k) 0) ∷ []
@@ -120,4 +121,4 @@ unfoldable pub takeBackAnswer : Traversal → Option ℕ
 takeBackAnswer t = firstRefusal (takeBackTests t)
 
 unfoldable pub shrunk : Traversal → Traversal
-shrunk t = unlessRefused (takeBackAnswer t) (state (t .kind) (t .n) (t .rows) (t .k - 1) (set (t .ordering) (t .k - 1) 0)) t
+shrunk t = unlessRefused (takeBackAnswer t) (state (t .kind) (t .mark) (t .n) (t .rows) (t .k - 1) (set (t .ordering) (t .k - 1) 0)) t

@@ -1,11 +1,11 @@
-// The open walk: a graph, a kind of search, and an ordering that grows and shrinks by one vertex. It is a state by value: each call takes it,
+// The open walk: a graph with its mark, a kind of search, and an ordering that grows and shrinks by one vertex. It is a state by value: each call takes it,
 // and hands it back with the answer. Its fields may hold anything; what is not well formed is refused, and handed back as it came.
-mod copy;
 mod offers;
 mod refusals;
 mod survey;
 
 use searches::Kind;
+use searches::Mark;
 use searches::Outcome;
 use searches::Refusal;
 use searches::Vertex;
@@ -16,6 +16,7 @@ ghost use Rattle.traversal.specs.State.{opened, offeredAnswer, offeredSe
 // An open walk: `n` rows of a graph, and the first `k` entries of an ordering.
 pub struct Traversal {
     pub kind: Kind,
+    pub mark: Mark,
     pub n: usize,
     pub rows: [u64; 64],
     pub k: usize,
@@ -36,18 +37,20 @@ pub struct Offering {
 }
 
 impl Traversal {
-    // An open walk with nothing placed, on its own copy of `rows`. Refused (1 to 5), the one of kind 0 with all else 0. Alters no list.
-    pub fn open(kind: Kind, rows: &[u64]) -> Stepped
-        ensures state { λ r. ⌜ r .traversal ≡ opened (kind .0) (now (rows .entry)) ⌝ }
-        ensures answer { λ r. ⌜ refusalOf (r .outcome) ≡ openAnswer (kind .0) (now (rows .entry)) ⌝ }
+    // An open walk with nothing placed, on its own copy of `rows`. Refused (1 to 5; 5 for two-way graphs only), the two-way one of kind 0 with all
+    // else 0. Alters no list.
+    pub fn open(kind: Kind, mark: Mark, rows: &[u64]) -> Stepped
+        ensures state { λ r. ⌜ r .traversal ≡ opened (kind .0) mark (now (rows .entry)) ⌝ }
+        ensures answer { λ r. ⌜ refusalOf (r .outcome) ≡ openAnswer (kind .0) mark (now (rows .entry)) ⌝ }
     {
         let mut copy = [0u64; 64];
         let ordering = [0u8; 64];
-        let checked = checks::open_refusal(kind, rows);
+        let checked = checks::open_refusal(kind, mark, rows);
         if let Outcome::Refused(refusal) = checked {
             return Stepped {
                 traversal: Traversal {
                     kind: Kind::GENERIC,
+                    mark: Mark::TwoWay,
                     n: 0,
                     rows: copy,
                     k: 0,
@@ -56,10 +59,11 @@ impl Traversal {
                 outcome: Outcome::Refused(refusal),
             };
         }
-        copy::copy(rows, &mut copy);
+        steps::copy::copy(rows, &mut copy);
         Stepped {
             traversal: Traversal {
                 kind,
+                mark,
                 n: rows.len(),
                 rows: copy,
                 k: 0,
@@ -76,10 +80,11 @@ impl Traversal {
         ensures answer { λ r. ⌜ refusalOf (r .outcome) ≡ offeredAnswer self ⌝ }
     {
         let kind = self.kind;
+        let mark = self.mark;
         let n = self.n;
         let rows = self.rows;
         let ordering = self.ordering;
-        let moment = survey::survey(kind, n, &rows[..], self.k, &ordering[..]);
+        let moment = survey::survey(kind, mark, n, &rows[..], self.k, &ordering[..]);
         if !moment.passes {
             return Offering {
                 traversal: self,
@@ -88,12 +93,13 @@ impl Traversal {
             };
         }
         // copied, since the prover covers no two fields of one struct that are borrowed at once
+        let columns = moment.columns;
         let labels = moment.labels;
         let smallest = moment.smallest;
         let largest = moment.largest;
         let set = offers::open_below(
             kind,
-            &rows[..n],
+            &columns[..n],
             &labels,
             &smallest,
             &largest,
@@ -114,24 +120,27 @@ impl Traversal {
         ensures answer { λ r. ⌜ refusalOf (r .outcome) ≡ placeAnswer self (vertex .0) ⌝ }
     {
         let kind = self.kind;
+        let mark = self.mark;
         let n = self.n;
         let rows = self.rows;
         let k = self.k;
         let mut ordering = self.ordering;
-        let checked = refusals::place_refusal(kind, n, &rows[..], k, &ordering[..], vertex);
+        let checked = refusals::place_refusal(kind, mark, n, &rows[..], k, &ordering[..], vertex);
         if let Outcome::Refused(refusal) = checked {
             return Stepped {
                 traversal: self,
                 outcome: Outcome::Refused(refusal),
             };
         }
+        let count = k + 1;
         ordering[k] = vertex.0;
         Stepped {
             traversal: Traversal {
                 kind,
+                mark,
                 n,
                 rows,
-                k: k + 1,
+                k: count,
                 ordering,
             },
             outcome: Outcome::Done,
@@ -144,11 +153,12 @@ impl Traversal {
         ensures answer { λ r. ⌜ refusalOf (r .outcome) ≡ takeBackAnswer self ⌝ }
     {
         let kind = self.kind;
+        let mark = self.mark;
         let n = self.n;
         let rows = self.rows;
         let k = self.k;
         let mut ordering = self.ordering;
-        let checked = refusals::take_back_refusal(kind, n, &rows[..], k, &ordering[..]);
+        let checked = refusals::take_back_refusal(kind, mark, n, &rows[..], k, &ordering[..]);
         if let Outcome::Refused(refusal) = checked {
             return Stepped {
                 traversal: self,
@@ -159,6 +169,7 @@ impl Traversal {
         Stepped {
             traversal: Traversal {
                 kind,
+                mark,
                 n,
                 rows,
                 k: k - 1,

@@ -1,4 +1,4 @@
-// Who is offered, of the placed and the unplaced vertices, the labels and the running values.
+// Who is offered, of the placed and the unplaced vertices, the labels and the running values, and the graph's columns.
 use labels::profile::profile_of;
 use searches::Kind;
 use searches::Vertex;
@@ -11,7 +11,7 @@ ghost use Rattle.traversal.specs.State.{setBelow};
 // Whether `v` is unplaced and no unplaced vertex is ahead of it. Each is compared with it at most once.
 pub fn is_open(
     kind: Kind,
-    rows: &[u64],
+    columns: &[u64],
     labels: &[u64; 64],
     smallest: &[u8; 64],
     largest: &[u8; 64],
@@ -19,21 +19,21 @@ pub fn is_open(
     free: u64,
     v: Vertex,
 ) -> bool
-    requires { ⌜ Consistent (now rows) (now labels) (now smallest) (now largest) placed ⌝ }
+    requires { ⌜ Consistent (now columns) (now labels) (now smallest) (now largest) placed ⌝ }
     ensures { λ r. ⌜ r ≡ openIn (searchOf (kind .0)) (now (labels .entry)) free (v .0) ⌝ }
 {
     let number = v.0 as usize;
     if !bitset::contains(free, number) {
         return false;
     }
-    let mine = profile_of(kind, rows, labels, smallest, largest, placed, v);
-    !labels::is_beaten(kind, rows, labels, smallest, largest, placed, free, mine)
+    let mine = profile_of(kind, columns, labels, smallest, largest, placed, v);
+    !labels::is_beaten(kind, columns, labels, smallest, largest, placed, free, mine)
 }
 
 // The set of such vertices below `n`.
 pub fn open_below(
     kind: Kind,
-    rows: &[u64],
+    columns: &[u64],
     labels: &[u64; 64],
     smallest: &[u8; 64],
     largest: &[u8; 64],
@@ -41,7 +41,7 @@ pub fn open_below(
     free: u64,
     n: usize,
 ) -> u64
-    requires { ⌜ (n ≤ 64) × Consistent (now rows) (now labels) (now smallest) (now largest) placed ⌝ }
+    requires { ⌜ (n ≤ 64) × Consistent (now columns) (now labels) (now smallest) (now largest) placed ⌝ }
     ensures { λ r. ⌜ r ≡ setBelow n (openIn (searchOf (kind .0)) (now (labels .entry)) free) ⌝ }
 {
     let mut set = 0u64;
@@ -49,7 +49,7 @@ pub fn open_below(
         let number = v as u8;
         if is_open(
             kind,
-            rows,
+            columns,
             labels,
             smallest,
             largest,

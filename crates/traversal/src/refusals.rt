@@ -2,6 +2,7 @@
 use crate::offers;
 use crate::survey;
 use searches::Kind;
+use searches::Mark;
 use searches::Outcome;
 use searches::Refusal;
 use searches::Vertex;
@@ -13,6 +14,7 @@ ghost use Rattle.traversal.specs.State.{state, placeAnswer, takeBackAnsw
 // The first of refusals 13, 14, 8, 15 and 16 that applies to placing `vertex`, else `Done`.
 pub fn place_refusal(
     kind: Kind,
+    mark: Mark,
     n: usize,
     rows: &[u64],
     k: usize,
@@ -20,9 +22,9 @@ pub fn place_refusal(
     vertex: Vertex,
 ) -> Outcome
     requires { ⌜ (length (now rows) ≡ 64) × (length (now ordering) ≡ 64) ⌝ }
-    ensures { λ r. ⌜ refusalOf r ≡ placeAnswer (state kind n (now (rows .entry)) k (now (ordering .entry))) (vertex .0) ⌝ }
+    ensures { λ r. ⌜ refusalOf r ≡ placeAnswer (state kind mark n (now (rows .entry)) k (now (ordering .entry))) (vertex .0) ⌝ }
 {
-    let moment = survey::survey(kind, n, rows, k, ordering);
+    let moment = survey::survey(kind, mark, n, rows, k, ordering);
     let v = vertex.0 as usize;
     if !moment.passes {
         return Outcome::Refused(Refusal::MalformedTraversal);
@@ -37,12 +39,13 @@ pub fn place_refusal(
         return Outcome::Refused(Refusal::AlreadyPlaced);
     }
     // copied, since the prover covers no two fields of one struct that are borrowed at once
+    let columns = moment.columns;
     let labels = moment.labels;
     let smallest = moment.smallest;
     let largest = moment.largest;
     if !offers::is_open(
         kind,
-        &rows[..n],
+        &columns[..n],
         &labels,
         &smallest,
         &largest,
@@ -56,11 +59,18 @@ pub fn place_refusal(
 }
 
 // The first of refusals 13 and 17 that applies to taking the last vertex back, else `Done`.
-pub fn take_back_refusal(kind: Kind, n: usize, rows: &[u64], k: usize, ordering: &[u8]) -> Outcome
+pub fn take_back_refusal(
+    kind: Kind,
+    mark: Mark,
+    n: usize,
+    rows: &[u64],
+    k: usize,
+    ordering: &[u8],
+) -> Outcome
     requires { ⌜ (length (now rows) ≡ 64) × (length (now ordering) ≡ 64) ⌝ }
-    ensures { λ r. ⌜ refusalOf r ≡ takeBackAnswer (state kind n (now (rows .entry)) k (now (ordering .entry))) ⌝ }
+    ensures { λ r. ⌜ refusalOf r ≡ takeBackAnswer (state kind mark n (now (rows .entry)) k (now (ordering .entry))) ⌝ }
 {
-    let moment = survey::survey(kind, n, rows, k, ordering);
+    let moment = survey::survey(kind, mark, n, rows, k, ordering);
     if !moment.passes {
         return Outcome::Refused(Refusal::MalformedTraversal);
     }

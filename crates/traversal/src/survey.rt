@@ -1,6 +1,7 @@
 // Whether an open walk is well formed.
 use engine::after::Moment;
 use searches::Kind;
+use searches::Mark;
 ghost use mathlib.Core.Path.{_≡_};
 ghost use Prim.Native.Nat.{_≤_};
 ghost use lib.ListN.{length};
@@ -33,10 +34,10 @@ fn entry_used_from(ordering: &[u8], k: usize) -> bool
 }
 
 // Whether the open walk of these parts is well formed; where it is, the labels, the running values and the placed and the unplaced vertices of
-// the moment, else empty labels, no value and no vertex. Its walk is judged once.
-pub fn survey(kind: Kind, n: usize, rows: &[u64], k: usize, ordering: &[u8]) -> Moment
+// the moment, and the columns of its graph, else empty labels, no value, no vertex and empty columns. Its walk is judged once.
+pub fn survey(kind: Kind, mark: Mark, n: usize, rows: &[u64], k: usize, ordering: &[u8]) -> Moment
     requires { ⌜ (length (now rows) ≡ 64) × (length (now ordering) ≡ 64) ⌝ }
-    ensures { λ r. ⌜ r ≡ surveyed (state kind n (now (rows .entry)) k (now (ordering .entry))) ⌝ }
+    ensures { λ r. ⌜ r ≡ surveyed (state kind mark n (now (rows .entry)) k (now (ordering .entry))) ⌝ }
 {
     if 64 < n {
         return engine::after::no_moment();
@@ -50,5 +51,5 @@ pub fn survey(kind: Kind, n: usize, rows: &[u64], k: usize, ordering: &[u8]) -> 
     if entry_used_from(ordering, k) {
         return engine::after::no_moment();
     }
-    engine::after::after(kind, &rows[..n], &ordering[..k])
+    engine::after::after(kind, mark, &rows[..n], &ordering[..k])
 }

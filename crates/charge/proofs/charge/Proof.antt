@@ -24,7 +24,7 @@ returns : tie.Need-returns
 unfolding billOf refusalOf
 returns c =
     let a = c .before .before .before .before .before .before .before .args in
-    charge-refused (a .kind .0) (now (a .rows)) (now (a .ordering)) (now (a .minutes)) (a .rate) _
+    charge-refused (a .kind .0) (a .mark) (now (a .rows)) (now (a .ordering)) (now (a .minutes)) (a .rate) _
     (sym (ap refusalOf (c .before .checked .given .1)) ∙ c .before .before .before .charge-refusal .ensures)
 
 enum-told : tie.Need-enum-told
@@ -32,22 +32,22 @@ enum-told c = search needs
 
 accepted : (c : tie.After-enum-told)
     → let a = c .before .before .before .before .before .before .args in
-    none ≡ firstRefusal (chargeTests (a .kind .0) (now (a .rows)) (now (a .ordering)) (now (a .minutes)) (a .rate))
+    none ≡ firstRefusal (chargeTests (a .kind .0) (a .mark) (now (a .rows)) (now (a .ordering)) (now (a .minutes)) (a .rate))
 unfolding refusalOf
 accepted c = sym (ap refusalOf (c .enum-told .given .1)) ∙ c .before .before .charge-refusal .ensures
 
 able : (c : tie.After-enum-told)
     → let a = c .before .before .before .before .before .before .args in
-    Chargeable (a .kind .0) (now (a .rows)) (now (a .ordering)) (now (a .minutes)) (a .rate)
+    Chargeable (a .kind .0) (a .mark) (now (a .rows)) (now (a .ordering)) (now (a .minutes)) (a .rate)
 able c =
     let a = c .before .before .before .before .before .before .args in
-    chargeable-out (a .kind .0) (now (a .rows)) (now (a .ordering)) (now (a .minutes)) (a .rate) (none-accepts _ (sym (accepted c)))
+    chargeable-out (a .kind .0) (a .mark) (now (a .rows)) (now (a .ordering)) (now (a .minutes)) (a .rate) (none-accepts _ (sym (accepted c)))
 
 minutes-of-requires : tie.Need-minutes-of-requires
 minutes-of-requires c κs =
     let a = c .before .before .before .before .before .before .args in (
-      length-bounded (a .kind .0) (now (a .rows)) (now (a .ordering)) (now (a .minutes)) (a .rate) (able c),
-      entry-bounded (a .kind .0) (now (a .rows)) (now (a .ordering)) (now (a .minutes)) (a .rate) (able c),
+      length-bounded (a .kind .0) (a .mark) (now (a .rows)) (now (a .ordering)) (now (a .minutes)) (a .rate) (able c),
+      entry-bounded (a .kind .0) (a .mark) (now (a .rows)) (now (a .ordering)) (now (a .minutes)) (a .rate) (able c),
     )
 
 -- what is multiplied is the exact product
@@ -60,7 +60,7 @@ exact c = ap (λ (m : ℕ). m * c .before .before .before .before .before .befor
 bounded : (c : tie.After-minutes-of) → c .minutes-of .result * c .before .before .before .before .before .before .before .args .rate ≤ largestProduct
 bounded c =
     let a = c .before .before .before .before .before .before .before .args in
-    omega (arith, exact c, product-bounded (a .kind .0) (now (a .rows)) (now (a .ordering)) (now (a .minutes)) (a .rate) (able (c .before)))
+    omega (arith, exact c, product-bounded (a .kind .0) (a .mark) (now (a .rows)) (now (a .ordering)) (now (a .minutes)) (a .rate) (able (c .before)))
 
 mul-cents-halves-up : tie.Need-mul-cents-halves-up
 mul-cents-halves-up c = omega (arith, bounded c)
@@ -74,7 +74,7 @@ returns-2 c =
     let told = c .before .before in
     let a = told .before .before .before .before .before .before .args in
     ap (λ (q : ℕ). cents q) (c .cents-halves-up .ensures ∙ ap (λ (x : ℕ). centsHalvesUp x) (exact (c .before)))
-    ∙ charge-accepted (a .kind .0) (now (a .rows)) (now (a .ordering)) (now (a .minutes)) (a .rate) (accepted told)
+    ∙ charge-accepted (a .kind .0) (a .mark) (now (a .rows)) (now (a .ordering)) (now (a .minutes)) (a .rate) (accepted told)
 
 pub charge-spec : {M : Type 1} → statement M
 charge-spec =

@@ -34,7 +34,7 @@ unfolding verdictOf isPass
 returns c =
     let a = c .before .before .before .before .before .before .before .args in
     c .refusal-after-judge .ensures
-    ∙ judged-decided (a .kind .0) (now (a .rows)) (now (a .ordering)) (now (a .minutes)) (a .rate) {v = passes}
+    ∙ judged-decided (a .kind .0) (a .mark) (now (a .rows)) (now (a .ordering)) (now (a .minutes)) (a .rate) {v = passes}
     (sym (ap verdictOf (c .before .enum-told .given .1)) ∙ c .before .before .before .judge .ensures)
     (λ r e. let clash : _≡_ {A = ℕ} 0 1 = cc in omega arith)
 
@@ -43,7 +43,7 @@ unfolding verdictOf isPass
 returns-2 c =
     let a = c .before .before .before .before .before .before .before .args in
     c .refusal-after-judge2 .ensures
-    ∙ judged-decided (a .kind .0) (now (a .rows)) (now (a .ordering)) (now (a .minutes)) (a .rate) {v = fails _ _ _}
+    ∙ judged-decided (a .kind .0) (a .mark) (now (a .rows)) (now (a .ordering)) (now (a .minutes)) (a .rate) {v = fails _ _ _}
     (sym (ap verdictOf (c .before .enum-told2 .given .1)) ∙ c .before .before .before .judge .ensures)
     (λ r e. let clash : _≡_ {A = ℕ} 0 1 = cc in omega arith)
 
@@ -51,7 +51,7 @@ returns-3 : tie.Need-returns-3
 unfolding verdictOf refusalOf
 returns-3 c =
     let a = c .before .before .before .before .before .before .before .args in
-    judged-refused (a .kind .0) (now (a .rows)) (now (a .ordering)) (now (a .minutes)) (a .rate) _
+    judged-refused (a .kind .0) (a .mark) (now (a .rows)) (now (a .ordering)) (now (a .minutes)) (a .rate) _
     (sym (ap verdictOf (c .before .judged .given .1)) ∙ c .before .before .before .judge .ensures)
 
 pub charge-refusal-spec : {M : Type 1} → statement M

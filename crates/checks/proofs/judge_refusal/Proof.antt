@@ -15,10 +15,10 @@ use Rattle.checks.proofs.judge_refusal.Statement.{statement}
 use Rattle.checks.proofs.judge_refusal.Tie as tie
 
 abbrev first-tests : tie.After-open-refusal → List (ℕ × Bool)
-first-tests c = let entry = c .before .before .before in openTests (entry .args .kind .0) (now (entry .args .rows))
+first-tests c = let entry = c .before .before .before in openTests (entry .args .kind .0) (entry .args .mark) (now (entry .args .rows))
 
 abbrev tests : tie.After-open-refusal → List (ℕ × Bool)
-tests c = let entry = c .before .before .before in judgeTests (entry .args .kind .0) (now (entry .args .rows)) (now (entry .args .ordering))
+tests c = let entry = c .before .before .before in judgeTests (entry .args .kind .0) (entry .args .mark) (now (entry .args .rows)) (now (entry .args .ordering))
 
 -- the first i tests do not hold
 abbrev Past : ℕ → tie.After-open-refusal → Type 0
@@ -72,7 +72,7 @@ returns-3 c = refused-here (past-6 (c .before .before)) (sym (c .before .vertex-
 
 repeated-requires : tie.Need-repeated-requires
 repeated-requires c κs =
-    (omega arith, entries-fit _ (rows-fit _ _ (opened (c .before .before .before))) (sym (c .before .vertex-outside .ensures) ∙ c .if2 .left))
+    (omega arith, entries-fit _ (rows-fit _ _ _ (opened (c .before .before .before))) (sym (c .before .vertex-outside .ensures) ∙ c .if2 .left))
 
 returns-4 : tie.Need-returns-4
 unfolding openTests judgeTests number refusalOf

@@ -16,12 +16,12 @@ use Rattle.checks.proofs.list_refusal.Statement.{statement}
 use Rattle.checks.proofs.list_refusal.Tie as tie
 
 abbrev first-tests : tie.After-open-refusal → List (ℕ × Bool)
-first-tests c = let entry = c .before .before .before .before in openTests (entry .args .kind .0) (now (entry .args .rows))
+first-tests c = let entry = c .before .before .before .before in openTests (entry .args .kind .0) (entry .args .mark) (now (entry .args .rows))
 
 abbrev tests : tie.After-open-refusal → List (ℕ × Bool)
 tests c =
     let entry = c .before .before .before .before in
-    listTests (entry .args .kind .0) (now (entry .args .rows)) (now (entry .args .tie-break)) (now (entry .args .output)) (entry .args .k)
+    listTests (entry .args .kind .0) (entry .args .mark) (now (entry .args .rows)) (now (entry .args .tie-break)) (now (entry .args .output)) (entry .args .k)
 
 -- the first i tests do not hold
 abbrev Past : ℕ → tie.After-open-refusal → Type 0
@@ -109,14 +109,14 @@ returns-5 c =
 repeated-requires : tie.Need-repeated-requires
 repeated-requires c κs = (
   omega arith,
-  entries-fit _ (rows-fit _ _ (opened (c .before .before .before .before .before .before .before)))
+  entries-fit _ (rows-fit _ _ _ (opened (c .before .before .before .before .before .before .before)))
       (sym (c .before .before .before .vertex-outside .ensures) ∙ c .before .before .if4 .left),
 )
 
 repeated-requires-2 : tie.Need-repeated-requires-2
 repeated-requires-2 c κs = (
   omega arith,
-  entries-fit _ (rows-fit _ _ (opened (c .before .before .before .before .before .before .before .before .before)))
+  entries-fit _ (rows-fit _ _ _ (opened (c .before .before .before .before .before .before .before .before .before)))
       (sym (c .before .before .before .vertex-outside2 .ensures) ∙ c .before .before .if5 .left),
 )
 

@@ -1,7 +1,8 @@
 -- `checks::open_refusal` meets its contract: each answer is given after the tests before it were tried, each on all rows.
 -- Assumes nothing.
 use mathlib.Core.List.{List}
-use mathlib.Core.Bool.{Bool}
+use mathlib.Core.Path.{_≡_, ap, _∙_}
+use mathlib.Core.Bool.{Bool, false, _&&_}
 use Prim.Native.Nat.{ℕ}
 use denote.Ref.{now}
 use lib.ListN.{drop}
@@ -10,14 +11,15 @@ use Rattle.bitset.specs.Word.{fromUp}
 use Rattle.bitset.proofs.Tests.{is-true, is-false}
 use Rattle.bitset.proofs.Passed.{some-found, none-found}
 use Rattle.searches.specs.Ordering.{arcs}
-use Rattle.searches.specs.Answer.{bitOutside, selfLoop, oneWay, openTests, number, refusalOf}
+use Rattle.searches.specs.Answer.{bitOutside, selfLoop, oneWay, isTwoWay, openTests, number, refusalOf}
+use Rattle.searches.specs.declared.Mark.{Mark}
 use Rattle.checks.specs.Row.{outsideAt, loopAt, unanswered, oneWayAt, refusedAt}
 use Rattle.checks.proofs.Tried.{Tried, tried-none, tried-one, refused-here, accepted-here}
 use Rattle.checks.proofs.open_refusal.Statement.{statement}
 use Rattle.checks.proofs.open_refusal.Tie as tie
 
 abbrev tests : tie.After-struct-known2 → List (ℕ × Bool)
-tests c = openTests (c .before .before .before .args .kind .0) (now (c .before .before .before .args .rows))
+tests c = openTests (c .before .before .before .args .kind .0) (c .before .before .before .args .mark) (now (c .before .before .before .args .rows))
 
 -- the first i tests do not hold
 abbrev Past : ℕ → tie.After-struct-known2 → Type 0
@@ -41,9 +43,24 @@ past-4 : (c : tie.Else4) → Past 4 (c .before .before .before .before .before .
 unfolding openTests selfLoop refusedAt loopAt
 past-4 c = tried-one (past-3 (c .before)) (is-false _ (none-found _ _ _ (c .before .before .first-refused2 .ensures) (c .if4 .left)))
 
-past-5 : (c : tie.Else5) → Past 5 (c .before .before .before .before .before .before .before .before)
+-- refusal 5 is tried as the mark says
+five-dropped : {mark : Mark} (b : Bool) → mark ≡ Mark.OneWay → (isTwoWay mark && b) ≡ false
+unfolding isTwoWay
+five-dropped b e = ap (λ (m : Mark). isTwoWay m && b) e
+
+five-tried : {mark : Mark} {b : Bool} (a : Bool) → mark ≡ Mark.TwoWay → b ≡ a → (isTwoWay mark && b) ≡ a
+unfolding isTwoWay
+five-tried {b = b} a e same = ap (λ (m : Mark). isTwoWay m && b) e ∙ same
+
+past-5 : (c : tie.Else5) → Past 5 (c .before .before .before .before .before .before .before .before .before .before)
 unfolding openTests oneWay refusedAt oneWayAt unanswered
-past-5 c = tried-one (past-4 (c .before .before)) (is-false _ (none-found _ _ _ (c .before .first-refused3 .ensures) (c .if5 .left)))
+past-5 c =
+    tried-one (past-4 (c .before .before .before .before))
+    (five-tried _ (c .before .before .enum-told2 .given .1) (is-false _ (none-found _ _ _ (c .before .first-refused3 .ensures) (c .if5 .left))))
+
+not-tried-5 : (c : tie.After-enum-told) → Past 5 (c .before .before .before .before .before .before .before .before)
+unfolding openTests
+not-tried-5 c = tried-one (past-4 (c .before .before)) (five-dropped _ (c .enum-told .given .1))
 
 returns : tie.Need-returns
 unfolding openTests number refusalOf
@@ -69,16 +86,28 @@ returns-4 : tie.Need-returns-4
 unfolding openTests number refusalOf selfLoop refusedAt loopAt
 returns-4 c = refused-here (past-3 (c .before)) (is-true _ (some-found _ _ _ (c .before .before .first-refused2 .ensures) (c .if4 .taken)))
 
+enum-told : tie.Need-enum-told
+enum-told c = c .match .keys1
+
+returns-5 : tie.Need-returns-5
+unfolding openTests number refusalOf
+returns-5 c = accepted-here (not-tried-5 c)
+
+enum-told-2 : tie.Need-enum-told-2
+enum-told-2 c = c .match .keys2
+
 first-refused-requires-3 : tie.Need-first-refused-requires-3
 first-refused-requires-3 c κs = tt
 
-returns-5 : tie.Need-returns-5
-unfolding openTests number refusalOf oneWay refusedAt oneWayAt unanswered
-returns-5 c = refused-here (past-4 (c .before .before)) (is-true _ (some-found _ _ _ (c .before .first-refused3 .ensures) (c .if5 .taken)))
-
 returns-6 : tie.Need-returns-6
+unfolding openTests number refusalOf oneWay refusedAt oneWayAt unanswered
+returns-6 c =
+    refused-here (past-4 (c .before .before .before .before))
+    (five-tried _ (c .before .before .enum-told2 .given .1) (is-true _ (some-found _ _ _ (c .before .first-refused3 .ensures) (c .if5 .taken))))
+
+returns-7 : tie.Need-returns-7
 unfolding openTests number refusalOf
-returns-6 c = accepted-here (past-5 c)
+returns-7 c = accepted-here (past-5 c)
 
 pub open-refusal-spec : {M : Type 1} → statement M
 open-refusal-spec =
@@ -90,6 +119,9 @@ open-refusal-spec =
     first-refused-requires-2
     returns-3
     returns-4
-    first-refused-requires-3
+    enum-told
     returns-5
-    returns-6)
+    enum-told-2
+    first-refused-requires-3
+    returns-6
+    returns-7)

@@ -1,10 +1,17 @@
 -- `engine::carry_on` meets its contract: refused as the checks say, else extended.
 -- Assumes nothing.
-use mathlib.Core.Path.{_≡_, sym, ap, _∙_}
+use Prim.Native.Nat.{ℕ, _≤_}
+use mathlib.Core.Path.{_≡_, refl, sym, ap, _∙_}
+use mathlib.Core.List.{List}
 use mathlib.Core.Option.{none}
 use denote.Ref.{now}
-use Rattle.searches.specs.Answer.{listTests, firstRefusal, refusalOf}
-use Rattle.engine.proofs.Calls.{carryOn-asked-refused, carryOn-asked-accepted, carryOn-asked-last}
+use lib.ListN.{length, take}
+use Rattle.searches.specs.Answer.{openTests, listTests, firstRefusal, Accepts, refusalOf}
+use Rattle.searches.proofs.Answers.{valid-small}
+use Rattle.steps.specs.Columns.{Transposed}
+use Rattle.steps.proofs.Turning.{transposed-turns, turned-within}
+use Rattle.engine.specs.Lists.{Extendable}
+use Rattle.engine.proofs.Calls.{valid-own-transpose, carryOn-asked-refused, carryOn-asked-valid, carryOn-asked-accepted, carryOn-asked-last}
 use borrow.Author.Needs.{needs}
 use Rattle.engine.proofs.carry_on.Statement.{statement}
 use Rattle.engine.proofs.carry_on.Tie as tie
@@ -22,7 +29,7 @@ returns : tie.Need-returns
 unfolding refusalOf
 returns c =
     let a = c .before .before .before .before .before .before .before .before .args in
-    carryOn-asked-refused (a .kind .0) (now (a .rows)) (now (a .tie-break)) (now (a .output)) (a .k) _
+    carryOn-asked-refused (a .kind .0) (a .mark) (now (a .rows)) (now (a .tie-break)) (now (a .output)) (a .k) _
     (sym (ap refusalOf (c .before .checked .given .1)) ∙ c .before .before .before .list-refusal .ensures)
 
 enum-told : tie.Need-enum-told
@@ -30,23 +37,84 @@ enum-told c = c .match .keys2
 
 accepted : (c : tie.After-enum-told)
     → let a = c .before .before .before .before .before .before .before .args in
-    none ≡ firstRefusal (listTests (a .kind .0) (now (a .rows)) (now (a .tie-break)) (now (a .output)) (a .k))
+    none ≡ firstRefusal (listTests (a .kind .0) (a .mark) (now (a .rows)) (now (a .tie-break)) (now (a .output)) (a .k))
 unfolding refusalOf
 accepted c = sym (ap refusalOf (c .enum-told .given .1)) ∙ c .before .before .list-refusal .ensures
 
+-- the graph is valid
+valid : (c : tie.After-enum-told)
+    → let a = c .before .before .before .before .before .before .before .args in
+    Accepts (openTests (a .kind .0) (a .mark) (now (a .rows)))
+valid c =
+    let a = c .before .before .before .before .before .before .before .args in
+    carryOn-asked-valid (a .kind .0) (a .mark) (now (a .rows)) (now (a .tie-break)) (now (a .output)) (a .k) (accepted c)
+
+-- what is extended, on the rows and any columns of theirs
+extendable : (c : tie.After-enum-told)
+    → let a = c .before .before .before .before .before .before .before .args in
+    (columns : List ℕ) → Transposed (now (a .rows)) columns → Extendable (now (a .rows)) columns (now (a .tie-break)) (now (a .output)) (a .k)
+extendable c columns across =
+    let a = c .before .before .before .before .before .before .before .args in
+    carryOn-asked-accepted (a .kind .0) (a .mark) (now (a .rows)) (now (a .tie-break)) (now (a .output)) (a .k) (accepted c) across
+
+enum-told-2 : tie.Need-enum-told-2
+enum-told-2 c = c .match2 .keys1
+
+-- a two-way graph's rows
 extend-requires : tie.Need-extend-requires
 extend-requires c κs =
-    let a = c .before .before .before .before .before .before .before .before .args in
-    carryOn-asked-accepted (a .kind .0) (now (a .rows)) (now (a .tie-break)) (now (a .output)) (a .k) (accepted (c .before))
+    let two-way = c .before in
+    let told = two-way .before .before in
+    let a = told .before .before .before .before .before .before .before .args in
+    extendable told _ (valid-own-transpose (a .kind .0) (a .mark) (now (a .rows)) (valid told) (two-way .enum-told2 .given .1))
 
 same-length-2 : tie.Need-same-length-2
 same-length-2 c = search needs
 
 returns-2 : tie.Need-returns-2
 returns-2 c =
-    let a = c .before .before .before .before .before .before .before .before .before .before .before .args in
-    let last = carryOn-asked-last (a .kind .0) (now (a .rows)) (now (a .tie-break)) (now (a .output)) (a .k) (accepted (c .before .before .before .before)) in
+    let told = c .before .before .before .before .before .before in
+    let a = told .before .before .before .before .before .before .before .args in
+    let last = carryOn-asked-last (a .kind .0) (a .mark) (now (a .rows)) (now (a .tie-break)) (now (a .output)) (a .k) (accepted told) in
     (c .before .before .extend .ensures .0 ∙ last .0, c .before .before .extend .ensures .1 ∙ last .1)
+
+enum-told-3 : tie.Need-enum-told-3
+enum-told-3 c = c .match2 .keys2
+
+-- a one-way graph is small, too
+small : (c : tie.After-enum-told3) → let a = c .before .before .before .before .before .before .before .before .before .args in length (now (a .rows)) ≤ 64
+small c =
+    let told = c .before .before in
+    let a = told .before .before .before .before .before .before .before .args in
+    valid-small (a .kind .0) (a .mark) (now (a .rows)) (valid told)
+
+transpose-requires : tie.Need-transpose-requires
+transpose-requires c κs = (small (c .before), refl)
+
+-- its rows, transposed
+turned : (c : tie.After-transpose)
+    → let rows = now (c .before .before .before .before .before .before .before .before .before .before .before .args .rows) in
+    Transposed rows (take (length rows) (c .transpose .last .1 .0))
+turned c = transposed-turns _ (small (c .before .before)) (c .transpose .ensures)
+
+array-share-prefix-columns : tie.Need-array-share-prefix-columns
+array-share-prefix-columns c = turned-within _ _ (turned c)
+
+slice-aggregate-extend : tie.Need-slice-aggregate-extend
+slice-aggregate-extend c = sym (turned (c .before) .as-many)
+
+extend-requires-2 : tie.Need-extend-requires-2
+extend-requires-2 c κs = let across = c .before .before in extendable (across .before .before .before .before) _ (turned across)
+
+same-length-3 : tie.Need-same-length-3
+same-length-3 c = search needs
+
+returns-3 : tie.Need-returns-3
+returns-3 c =
+    let told = c .before .before .before .before .before .before .before .before .before in
+    let a = told .before .before .before .before .before .before .before .args in
+    let last = carryOn-asked-last (a .kind .0) (a .mark) (now (a .rows)) (now (a .tie-break)) (now (a .output)) (a .k) (accepted told) in
+    (c .before .before .extend2 .ensures .0 ∙ last .0, c .before .before .extend2 .ensures .1 ∙ last .1)
 
 pub carry-on-spec : {M : Type 1} → statement M
 carry-on-spec =
@@ -57,6 +125,14 @@ carry-on-spec =
     same-length
     returns
     enum-told
+    enum-told-2
     extend-requires
     same-length-2
-    returns-2)
+    returns-2
+    enum-told-3
+    transpose-requires
+    array-share-prefix-columns
+    slice-aggregate-extend
+    extend-requires-2
+    same-length-3
+    returns-3)

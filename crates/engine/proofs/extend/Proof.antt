@@ -21,7 +21,7 @@ use Rattle.engine.proofs.extend.Statement.{statement}
 use Rattle.engine.proofs.extend.Tie as tie
 
 replay-requires : tie.Need-replay-requires
-replay-requires c κs = let s = c .before .before .before .before .before .before .before in replayable (now (s .args .rows)) (now (s .args .output)) (s .args .k) (s .pre .start)
+replay-requires c κs = let s = c .before .before .before .before .before .before .before .before in replayable (now (s .args .rows)) (now (s .args .output)) (s .args .k) (s .pre .start)
 
 same-length : tie.Need-same-length
 same-length c = search needs
@@ -29,11 +29,11 @@ same-length c = search needs
 returns : tie.Need-returns
 unfolding refusalOf number
 returns c =
-    let s = c .before .before .before .before .before .before .before .before .before .before in
+    let s = c .before .before .before .before .before .before .before .before .before .before .before in
     let a = s .args in
     let k = searchOf (a .kind .0) in
     let r = c .before .before .replay in
-    let e = stopped-fails (now (a .rows)) (now (a .output)) (a .k) (s .pre .start) k (r .result .count) (r .ensures .0) (r .last .1 .1 .1 .1 .0)
+    let e = stopped-fails (now (a .rows)) (now (a .output)) (a .k) (s .pre .start) k (r .result .count) (r .ensures .0) (r .last .1 .1 .1 .1 .1 .0)
     (r .result .set) (r .result .free) (c .if1 .taken) (r .ensures .1 .1 .1 .1 .0) (r .ensures .1 .0) (r .ensures .1 .1 .0)
     in (
       sym (ap (λ (x : Bool). cond {A = Option ℕ} x none (some 12)) e),
@@ -51,7 +51,7 @@ part-fill-end c = search needs
 
 fill-requires : tie.Need-fill-requires
 fill-requires c κs =
-    let s = c .before .before .before .before .before .before .before .before .before .before .before .before .before .before in
+    let s = c .before .before .before .before .before .before .before .before .before .before .before .before .before .before .before in
     let a = s .args in
     let room = s .pre .room in
     let r = c .before .before .before .before .before .before .replay in
@@ -59,7 +59,7 @@ fill-requires c κs =
     record {
       fits = fits;
       small = s .pre .start .small;
-      both-ways = s .pre .start .both-ways;
+      turned = s .pre .start .turned;
       names = s .pre .names;
       along =
           along-ended (now (a .rows)) (now (a .output)) (a .k) (s .pre .start) (searchOf (a .kind .0)) (r .result .count) (r .ensures .0) (omega arith)
@@ -74,15 +74,15 @@ same-length-2 c = search needs
 returns-2 : tie.Need-returns-2
 unfolding refusalOf isPass
 returns-2 c =
-    let s = c .before .before .before .before .before .before .before .before .before .before .before .before .before .before .before .before .before in
+    let s = c .before .before .before .before .before .before .before .before .before .before .before .before .before .before .before .before .before .before in
     let a = s .args in
     let k = searchOf (a .kind .0) in
     let r = c .before .before .before .before .before .before .before .before .before .replay in
     let p = ended-passes (now (a .rows)) (now (a .output)) (a .k) (s .pre .start) k (r .result .count) (r .ensures .0) (omega arith) in
     let e : isPass (judge k (arcs (now (a .rows))) (length (now (a .rows))) (now (a .output)) (a .k)) ≡ true = ap isPass p in (
       sym (ap (λ (x : Bool). cond {A = Option ℕ} x none (some 12)) e),
-      filled-carried k (now (a .rows)) (now (a .tie-break)) (now (a .output)) (a .k) (s .pre) (r .result .count) (r .result .free) (r .last .1 .1 .1 .1 .0)
-          (c .before .before .fill .last .1 .1 .1 .0) (r .ensures .0) (omega arith) (r .ensures .1 .1 .1 .1 .0) (r .ensures .1 .1 .0) (c .before .before .fill .ensures)
+      filled-carried k (now (a .rows)) (now (a .tie-break)) (now (a .output)) (a .k) (s .pre) (r .result .count) (r .result .free) (r .last .1 .1 .1 .1 .1 .0)
+          (c .before .before .fill .last .1 .1 .1 .1 .0) (r .ensures .0) (omega arith) (r .ensures .1 .1 .1 .1 .0) (r .ensures .1 .1 .0) (c .before .before .fill .ensures)
           ∙ sym (ap (λ (x : Bool). cond x (carryOn k (arcs (now (a .rows))) (length (now (a .rows))) (now (a .tie-break)) (now (a .output)) (a .k) ++ drop (length (now (a .rows))) (now (a .output))) (now (a .output))) e),
     )
 

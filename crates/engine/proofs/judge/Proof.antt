@@ -1,14 +1,20 @@
 -- `engine::judge` meets its contract: refused as the checks say, else the verdict.
 -- Assumes nothing.
-use mathlib.Core.Path.{_≡_, sym, ap, _∙_}
+use Prim.Native.Nat.{ℕ, _≤_}
+use mathlib.Core.Path.{_≡_, refl, sym, ap, _∙_}
+use mathlib.Core.List.{List}
+use mathlib.Core.Option.{none}
 use denote.Ref.{now}
-use lib.ListN.{length}
+use lib.ListN.{length, take}
 use Rattle.searches.specs.Kind.{searchOf}
 use Rattle.searches.specs.Ordering.{arcs}
 use Rattle.searches.specs.Violation.{judge as judgeOf}
-use Rattle.searches.specs.Answer.{judgeAnswer, verdictOf, refusalOf}
+use Rattle.searches.specs.Answer.{openTests, judgeTests, firstRefusal, Accepts, judgeAnswer, verdictOf, refusalOf}
+use Rattle.searches.proofs.Answers.{valid-small}
+use Rattle.steps.specs.Columns.{Transposed}
+use Rattle.steps.proofs.Turning.{transposed-turns, turned-within}
 use Rattle.engine.specs.Lists.{Judgeable}
-use Rattle.engine.proofs.Calls.{judge-asked-refused, judge-asked-accepted}
+use Rattle.engine.proofs.Calls.{valid-own-transpose, judge-asked-refused, judge-asked-valid, judge-asked-accepted}
 use Rattle.engine.proofs.judge.Statement.{statement}
 use Rattle.engine.proofs.judge.Tie as tie
 
@@ -22,7 +28,7 @@ returns : tie.Need-returns
 unfolding verdictOf refusalOf
 returns c =
     let a = c .before .before .before .before .before .before .args in
-    judge-asked-refused (a .kind .0) (now (a .rows)) (now (a .ordering)) _
+    judge-asked-refused (a .kind .0) (a .mark) (now (a .rows)) (now (a .ordering)) _
     (sym (ap refusalOf (c .before .checked .given .1)) ∙ c .before .before .before .judge-refusal .ensures)
 
 enum-told : tie.Need-enum-told
@@ -30,19 +36,68 @@ enum-told c = c .match .keys2
 
 accepted : (c : tie.After-enum-told)
     → let a = c .before .before .before .before .before .args in
-    Judgeable (now (a .rows)) (now (a .ordering)) (length (now (a .ordering)))
-    × (judgeOf (searchOf (a .kind .0)) (arcs (now (a .rows))) (length (now (a .rows))) (now (a .ordering)) (length (now (a .ordering)))
-    ≡ judgeAnswer (a .kind .0) (now (a .rows)) (now (a .ordering)))
+    none ≡ firstRefusal (judgeTests (a .kind .0) (a .mark) (now (a .rows)) (now (a .ordering)))
 unfolding refusalOf
-accepted c =
+accepted c = sym (ap refusalOf (c .enum-told .given .1)) ∙ c .before .before .judge-refusal .ensures
+
+-- the graph is valid
+valid : (c : tie.After-enum-told) → let a = c .before .before .before .before .before .args in Accepts (openTests (a .kind .0) (a .mark) (now (a .rows)))
+valid c = let a = c .before .before .before .before .before .args in judge-asked-valid (a .kind .0) (a .mark) (now (a .rows)) (now (a .ordering)) (accepted c)
+
+-- what is judged, on the rows and any columns of theirs
+judgeable : (c : tie.After-enum-told)
+    → let a = c .before .before .before .before .before .args in
+    (columns : List ℕ) → Transposed (now (a .rows)) columns
+    → Judgeable (now (a .rows)) columns (now (a .ordering)) (length (now (a .ordering)))
+    × (judgeOf (searchOf (a .kind .0)) (arcs (now (a .rows))) (length (now (a .rows))) (now (a .ordering)) (length (now (a .ordering)))
+    ≡ judgeAnswer (a .kind .0) (a .mark) (now (a .rows)) (now (a .ordering)))
+judgeable c columns across =
     let a = c .before .before .before .before .before .args in
-    judge-asked-accepted (a .kind .0) (now (a .rows)) (now (a .ordering)) (sym (ap refusalOf (c .enum-told .given .1)) ∙ c .before .before .judge-refusal .ensures)
+    judge-asked-accepted (a .kind .0) (a .mark) (now (a .rows)) (now (a .ordering)) (accepted c) across
+
+enum-told-2 : tie.Need-enum-told-2
+enum-told-2 c = c .match2 .keys1
+
+-- a two-way graph's rows
+own : (c : tie.After-enum-told2) → let a = c .before .before .before .before .before .before .before .args in Transposed (now (a .rows)) (now (a .rows))
+own c =
+    let told = c .before .before in
+    let a = told .before .before .before .before .before .args in
+    valid-own-transpose (a .kind .0) (a .mark) (now (a .rows)) (valid told) (c .enum-told2 .given .1)
 
 verdict-requires : tie.Need-verdict-requires
-verdict-requires c κs = accepted c .0
+verdict-requires c κs = judgeable (c .before .before) _ (own c) .0
 
 returns-2 : tie.Need-returns-2
-returns-2 c = c .verdict .ensures ∙ accepted (c .before) .1
+returns-2 c = c .verdict .ensures ∙ judgeable (c .before .before .before) _ (own (c .before)) .1
+
+enum-told-3 : tie.Need-enum-told-3
+enum-told-3 c = c .match2 .keys2
+
+-- a one-way graph is small, too
+small : (c : tie.After-enum-told3) → let a = c .before .before .before .before .before .before .before .args in length (now (a .rows)) ≤ 64
+small c = let told = c .before .before in let a = told .before .before .before .before .before .args in valid-small (a .kind .0) (a .mark) (now (a .rows)) (valid told)
+
+transpose-requires : tie.Need-transpose-requires
+transpose-requires c κs = (small (c .before), refl)
+
+-- its rows, transposed
+turned : (c : tie.After-transpose)
+    → let rows = now (c .before .before .before .before .before .before .before .before .before .args .rows) in
+    Transposed rows (take (length rows) (c .transpose .last .1 .0))
+turned c = transposed-turns _ (small (c .before .before)) (c .transpose .ensures)
+
+array-share-prefix-columns : tie.Need-array-share-prefix-columns
+array-share-prefix-columns c = turned-within _ _ (turned c)
+
+slice-aggregate-verdict : tie.Need-slice-aggregate-verdict
+slice-aggregate-verdict c = sym (turned (c .before) .as-many)
+
+verdict-requires-2 : tie.Need-verdict-requires-2
+verdict-requires-2 c κs = judgeable (c .before .before .before .before .before) _ (turned (c .before)) .0
+
+returns-3 : tie.Need-returns-3
+returns-3 c = c .verdict2 .ensures ∙ judgeable (c .before .before .before .before .before .before) _ (turned (c .before .before)) .1
 
 pub judge-spec : {M : Type 1} → statement M
 judge-spec =
@@ -52,5 +107,12 @@ judge-spec =
     enum-known-checked
     returns
     enum-told
+    enum-told-2
     verdict-requires
-    returns-2)
+    returns-2
+    enum-told-3
+    transpose-requires
+    array-share-prefix-columns
+    slice-aggregate-verdict
+    verdict-requires-2
+    returns-3)

@@ -17,10 +17,10 @@ use Rattle.labels.proofs.is_beaten.Statement.{statement}
 use Rattle.labels.proofs.is_beaten.Tie as tie
 
 abbrev Inv-loop : tie.InvT-loop
-Inv-loop kind rows labels smallest largest placed free mine rest₀ rest = Scanned (searchOf (kind .0)) labels free (mine .label) rest
+Inv-loop kind columns labels smallest largest placed free mine rest₀ rest = Scanned (searchOf (kind .0)) labels free (mine .label) rest
 
 abbrev μ-loop : tie.MeasureT-loop
-μ-loop kind rows labels smallest largest placed free mine rest₀ rest = rest
+μ-loop kind columns labels smallest largest placed free mine rest₀ rest = rest
 
 -- the smallest number of what is left is in it
 found : (c : tie.After-smallest Inv-loop μ-loop) → (c .smallest .result < 64) × T (member (c .before .before .loop .rest) (c .smallest .result))

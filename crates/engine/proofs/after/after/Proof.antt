@@ -1,12 +1,17 @@
 -- `engine::after::after` meets its contract: refused orderings do not pass; any other passes where the replay comes to its end.
 -- Assumes nothing.
-use mathlib.Core.Path.{_≡_, sym, ap, _∙_}
+use Prim.Native.Nat.{ℕ}
+use mathlib.Core.Path.{_≡_, refl, sym, ap, _∙_, subst}
+use mathlib.Core.List.{List}
 use mathlib.Core.Option.{none}
 use denote.Ref.{now}
-use lib.ListN.{length}
+use lib.ListN.{length, take}
 use borrow.Author.Needs.{needs}
-use Rattle.searches.specs.Answer.{judgeTests, firstRefusal, refusalOf}
-use Rattle.engine.proofs.Calls.{replayable, judge-asked-accepted, moment-refused, moment-stopped, moment-ended}
+use Rattle.searches.specs.Answer.{openTests, judgeTests, firstRefusal, Accepts, refusalOf}
+use Rattle.searches.proofs.Answers.{valid-small}
+use Rattle.steps.specs.Columns.{Transposed}
+use Rattle.steps.proofs.Turning.{turned-within}
+use Rattle.engine.proofs.Calls.{valid-turns, replayable, judge-asked-valid, judge-asked-accepted, moment-refused, moment-stopped, moment-ended}
 use Rattle.engine.proofs.after.after.Statement.{statement}
 use Rattle.engine.proofs.after.after.Tie as tie
 
@@ -24,7 +29,7 @@ unfolding refusalOf
 returns c =
     let told = c .before in
     let a = told .before .before .before .before .before .args in
-    moment-refused (a .kind .0) (now (a .rows)) (now (a .ordering)) (c .no-moment .ensures) _
+    moment-refused (a .kind .0) (a .mark) (now (a .rows)) (now (a .ordering)) (c .no-moment .ensures) _
     (sym (ap refusalOf (told .enum-told .given .1)) ∙ told .before .before .judge-refusal .ensures)
 
 enum-told-2 : tie.Need-enum-told-2
@@ -32,16 +37,43 @@ enum-told-2 c = search needs
 
 accepted : (c : tie.After-enum-told2)
     → let a = c .before .before .before .before .before .args in
-    none ≡ firstRefusal (judgeTests (a .kind .0) (now (a .rows)) (now (a .ordering)))
+    none ≡ firstRefusal (judgeTests (a .kind .0) (a .mark) (now (a .rows)) (now (a .ordering)))
 unfolding refusalOf
 accepted c = sym (ap refusalOf (c .enum-told2 .given .1)) ∙ c .before .before .judge-refusal .ensures
 
+-- the graph is valid
+valid : (c : tie.After-enum-told2) → let a = c .before .before .before .before .before .args in Accepts (openTests (a .kind .0) (a .mark) (now (a .rows)))
+valid c = let a = c .before .before .before .before .before .args in judge-asked-valid (a .kind .0) (a .mark) (now (a .rows)) (now (a .ordering)) (accepted c)
+
+columns-of-requires : tie.Need-columns-of-requires
+columns-of-requires c κs =
+    let told = c .before in
+    let a = told .before .before .before .before .before .args in
+    (valid-small (a .kind .0) (a .mark) (now (a .rows)) (valid told), refl)
+
+-- what is counted in are the columns
+turned : (c : tie.After-columns-of)
+    → let rows = now (c .before .before .before .before .before .before .before .args .rows) in
+    Transposed rows (take (length rows) (c .columns-of .last .1 .1 .0))
+turned c =
+    let told = c .before .before in
+    let a = told .before .before .before .before .before .args in
+    subst (λ (columns : List ℕ). Transposed (now (a .rows)) (take (length (now (a .rows))) columns)) (sym (c .columns-of .ensures))
+    (valid-turns (a .kind .0) (a .mark) (now (a .rows)) (valid told))
+
+array-share-prefix-columns : tie.Need-array-share-prefix-columns
+array-share-prefix-columns c = turned-within _ _ (turned c)
+
+slice-aggregate-replay : tie.Need-slice-aggregate-replay
+slice-aggregate-replay c = sym (turned (c .before) .as-many)
+
 replay-requires : tie.Need-replay-requires
 replay-requires c κs =
-    let told = c .before .before .before in
+    let across = c .before .before .before .before in
+    let told = across .before .before in
     let a = told .before .before .before .before .before .args in
     replayable (now (a .rows)) (now (a .ordering)) (length (now (a .ordering)))
-    (judge-asked-accepted (a .kind .0) (now (a .rows)) (now (a .ordering)) (accepted told) .0)
+    (judge-asked-accepted (a .kind .0) (a .mark) (now (a .rows)) (now (a .ordering)) (accepted told) (turned across) .0)
 
 no-moment-requires-2 : tie.Need-no-moment-requires-2
 no-moment-requires-2 c κs = search needs
@@ -49,17 +81,19 @@ no-moment-requires-2 c κs = search needs
 returns-2 : tie.Need-returns-2
 returns-2 c =
     let r = c .before .before .before in
-    let told = r .before .before .before .before in
+    let told = r .before .before .before .before .before .before .before in
     let a = told .before .before .before .before .before .args in
-    moment-stopped (a .kind .0) (now (a .rows)) (now (a .ordering)) (accepted told) (r .replay .result .count) (r .replay .ensures .0) (c .no-moment2 .ensures) (c .before .if1 .taken)
+    moment-stopped (a .kind .0) (a .mark) (now (a .rows)) (now (a .ordering)) (accepted told) (r .replay .result .count) (r .replay .ensures .0) (c .no-moment2 .ensures) (c .before .if1 .taken)
 
 returns-3 : tie.Need-returns-3
 returns-3 c =
     let r = c .before .before in
-    let told = r .before .before .before .before in
+    let across = r .before .before .before .before .before in
+    let told = across .before .before in
     let a = told .before .before .before .before .before .args in
-    moment-ended (a .kind .0) (now (a .rows)) (now (a .ordering)) (accepted told) (r .replay .result .count) (r .replay .ensures .0) (c .if1 .left)
-    (r .replay .ensures .1 .0) (r .replay .ensures .1 .1 .0) (r .replay .ensures .1 .1 .1 .1 .0) (r .replay .ensures .1 .1 .1 .1 .1 .0) (r .replay .ensures .1 .1 .1 .1 .1 .1)
+    moment-ended (a .kind .0) (a .mark) (now (a .rows)) (now (a .ordering)) (accepted told) (r .replay .result .count) (r .replay .ensures .0) (c .if1 .left)
+    (across .columns-of .ensures) (r .replay .ensures .1 .0) (r .replay .ensures .1 .1 .0) (r .replay .ensures .1 .1 .1 .1 .0) (r .replay .ensures .1 .1 .1 .1 .1 .0)
+    (r .replay .ensures .1 .1 .1 .1 .1 .1)
 
 pub after-spec : {M : Type 1} → statement M
 after-spec =
@@ -70,6 +104,9 @@ after-spec =
     no-moment-requires
     returns
     enum-told-2
+    columns-of-requires
+    array-share-prefix-columns
+    slice-aggregate-replay
     replay-requires
     no-moment-requires-2
     returns-2

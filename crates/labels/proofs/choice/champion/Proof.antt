@@ -28,11 +28,11 @@ Leading s labels free front v lead rest =
     T (member free (v .0)) × Scanned s labels front (getD labels (v .0) 0) rest × (lead ≡ profileOf s (getD labels (v .0) 0))
 
 abbrev Inv-loop : tie.InvT-loop
-Inv-loop kind rows labels smallest largest placed free reached front best₀ lead₀ rest₀ best lead rest =
+Inv-loop kind columns labels smallest largest placed free reached front best₀ lead₀ rest₀ best lead rest =
     Leading (searchOf (kind .0)) labels free front best lead rest
 
 abbrev μ-loop : tie.MeasureT-loop
-μ-loop kind rows labels smallest largest placed free reached front best₀ lead₀ rest₀ best lead rest = rest
+μ-loop kind columns labels smallest largest placed free reached front best₀ lead₀ rest₀ best lead rest = rest
 
 common-requires : tie.Need-common-requires Inv-loop μ-loop
 common-requires c κs = search needs

@@ -13,10 +13,10 @@ use Rattle.labels.proofs.choice.choose.Statement.{statement}
 use Rattle.labels.proofs.choice.choose.Tie as tie
 
 abbrev Inv-loop : tie.InvT-loop
-Inv-loop kind rows labels smallest largest placed free reached tie-break best end passed₀ passed = Closed (searchOf (kind .0)) labels free tie-break (end - passed)
+Inv-loop kind columns labels smallest largest placed free reached tie-break best end passed₀ passed = Closed (searchOf (kind .0)) labels free tie-break (end - passed)
 
 abbrev μ-loop : tie.MeasureT-loop
-μ-loop kind rows labels smallest largest placed free reached tie-break best end passed₀ passed = end - passed
+μ-loop kind columns labels smallest largest placed free reached tie-break best end passed₀ passed = end - passed
 
 entry-requires : tie.Need-entry-requires Inv-loop μ-loop
 entry-requires c κs = search needs

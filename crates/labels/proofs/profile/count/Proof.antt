@@ -30,9 +30,9 @@ returns : tie.Need-returns
 unfolding tally
 returns c =
     let s = c .before .before .before .before .before in
-    let rows = s .args .rows .now in
+    let columns = s .args .columns .now in
     let v = s .args .vertex .0 in
-    let row = ⊎-elim (λ x. x .2) (λ x. x .1 ∙ sym (List·getD-eq-default rows 0 (x .0 .left))) (c .before .before .if1 .came) in
+    let row = ⊎-elim (λ x. x .2) (λ x. x .1 ∙ sym (List·getD-eq-default columns 0 (x .0 .left))) (c .before .before .if1 .came) in
     c .size .ensures ∙ ap (λ (x : ℕ). countBelow 64 (member x)) (c .before .common .ensures)
     ∙ ap (λ (x : ℕ). countBelow 64 (member (common x (s .args .placed)))) row
 

@@ -16,19 +16,19 @@ use Rattle.steps.proofs.fill.fill.Statement.{statement}
 use Rattle.steps.proofs.fill.fill.Tie as tie
 
 abbrev Inv-loop : tie.InvT-loop
-Inv-loop kind rows tie-break tail₀ k labels₀ smallest₀ largest₀ placed free reached taken₀ unplaced₀ met₀ count i₀ tail labels smallest largest taken unplaced met i =
+Inv-loop kind rows columns tie-break tail₀ k labels₀ smallest₀ largest₀ placed free reached taken₀ unplaced₀ met₀ count i₀ tail labels smallest largest taken unplaced met i =
     Filling (searchOf (kind .0)) rows tie-break k count labels₀ free tail₀ tail labels unplaced i
     × Along rows (k + i) labels smallest largest taken unplaced × Covers met labels
 
 abbrev μ-loop : tie.MeasureT-loop
-μ-loop kind rows tie-break tail₀ k labels₀ smallest₀ largest₀ placed free reached taken₀ unplaced₀ met₀ count i₀ tail labels smallest largest taken unplaced met i = count - i
+μ-loop kind rows columns tie-break tail₀ k labels₀ smallest₀ largest₀ placed free reached taken₀ unplaced₀ met₀ count i₀ tail labels smallest largest taken unplaced met i = count - i
 
 sub-count : tie.Need-sub-count Inv-loop μ-loop
 sub-count c = omega arith
 
 loop-holds : tie.Need-loop-holds Inv-loop μ-loop
 loop-holds c =
-    let s = c .before .before .before in
+    let s = c .before .before .before .before in
     let a = s .args in (
       filling-start (searchOf (a .kind .0)) (a .rows .now) (a .tie-break .now) (a .k) (length (a .rows .now) - a .k) (a .labels .now) (a .free) (a .tail .now),
       subst (λ (p : ℕ). Along (a .rows .now) p (a .labels .now) (a .smallest .now) (a .largest .now) (a .placed) (a .free)) (let e : a .k ≡ a .k + 0 = omega arith in e) (s .pre .along),
@@ -38,8 +38,8 @@ loop-holds c =
 choose-requires : tie.Need-choose-requires Inv-loop μ-loop
 choose-requires c κs =
     let l = c .before .before .before .before in
-    let s = l .before .before .before .before in
-    (l .loop .inv .2, along-consistent (now (s .args .rows)) (s .pre .small) (s .pre .both-ways) (l .loop .inv .1))
+    let s = l .before .before .before .before .before in
+    (l .loop .inv .2, along-consistent (now (s .args .rows)) (s .pre .small) (s .pre .turned) (l .loop .inv .1))
 
 slice-write-tail : tie.Need-slice-write-tail Inv-loop μ-loop
 slice-write-tail c = omega (arith, c .before .before .before .before .before .loop .inv .0 .long)
@@ -54,7 +54,7 @@ spread-requires : tie.Need-spread-requires Inv-loop μ-loop
 spread-requires c κs =
     let chosen = c .before .before .before .before in
     let l = chosen .before .before .before .before .before in
-    let s = l .before .before .before .before in
+    let s = l .before .before .before .before .before in
     omega (arith, s .pre .small, s .pre .fits)
 
 cast-insert : tie.Need-cast-insert Inv-loop μ-loop
@@ -87,7 +87,7 @@ loop-again c =
     let chosen = row .before in
     let turn = chosen .before .before .before .before in
     let l = turn .before in
-    let s = l .before .before .before .before in
+    let s = l .before .before .before .before .before in
     let a = s .args in
     let kind = searchOf (a .kind .0) in
     let n = length (a .rows .now) in
@@ -113,7 +113,7 @@ same-length c = search needs
 returns : tie.Need-returns Inv-loop μ-loop
 returns c =
     let l = c .before in
-    let a = l .before .before .before .before .args in
+    let a = l .before .before .before .before .before .args in
     filling-end (searchOf (a .kind .0)) (a .rows .now) (a .tie-break .now) (a .k) (length (a .rows .now) - a .k) (a .labels .now) (a .free) (a .tail .now)
     (l .loop .inv .0) (omega arith)
 

@@ -17,39 +17,39 @@ use Rattle.steps.proofs.replay.replay.Statement.{statement}
 use Rattle.steps.proofs.replay.replay.Tie as tie
 
 abbrev Inv-loop : tie.InvT-loop
-Inv-loop kind rows ordering k labels₀ smallest₀ largest₀ set₀ free₀ reached₀ j₀ labels smallest largest set free reached j =
+Inv-loop kind rows columns ordering k labels₀ smallest₀ largest₀ set₀ free₀ reached₀ j₀ labels smallest largest set free reached j =
     Replaying (searchOf (kind .0)) rows ordering k labels smallest largest set free reached j
 
 abbrev μ-loop : tie.MeasureT-loop
-μ-loop kind rows ordering k labels₀ smallest₀ largest₀ set₀ free₀ reached₀ j₀ labels smallest largest set free reached j = k - j
+μ-loop kind rows columns ordering k labels₀ smallest₀ largest₀ set₀ free₀ reached₀ j₀ labels smallest largest set free reached j = k - j
 
 full-below-requires : tie.Need-full-below-requires Inv-loop μ-loop
 full-below-requires c κs = search needs
 
 -- the vertex whose turn it is
 inside : (c : tie.After-vertex-at Inv-loop μ-loop)
-    → (c .vertex-at .result .0 < length (c .before .before .before .before .before .before .args .rows .now))
-    × (length (c .before .before .before .before .before .before .args .rows .now) ≤ 64)
+    → (c .vertex-at .result .0 < length (c .before .before .before .before .before .before .before .args .rows .now))
+    × (length (c .before .before .before .before .before .before .before .args .rows .now) ≤ 64)
 inside c =
-    let s = c .before .before .before .before .before .before in
+    let s = c .before .before .before .before .before .before .before in
     (omega (arith, c .vertex-at .ensures, s .pre .vertices (c .before .before .loop .j) (c .before .loop-test .taken)), s .pre .small)
 
 loop-holds : tie.Need-loop-holds Inv-loop μ-loop
 loop-holds c =
-    let s = c .before .before .before in
+    let s = c .before .before .before .before in
     replay-start (searchOf (s .args .kind .0)) (s .args .rows .now) (s .args .ordering .now) (s .args .k) (s .pre) (c .full-below .ensures)
 
 vertex-at-requires : tie.Need-vertex-at-requires Inv-loop μ-loop
-vertex-at-requires c κs = let s = c .before .before .before .before .before in omega (arith, s .pre .long, s .pre .fits)
+vertex-at-requires c κs = let s = c .before .before .before .before .before .before in omega (arith, s .pre .long, s .pre .fits)
 
 -- what is kept beside the labels at the vertex's turn
 agrees : (c : tie.After-vertex-at Inv-loop μ-loop)
-    → let a = c .before .before .before .before .before .before .args in
+    → let a = c .before .before .before .before .before .before .before .args in
     let l = c .before .before .loop in
-    Consistent (now (a .rows)) (l .labels) (l .smallest) (l .largest) (l .set)
+    Consistent (now (a .columns)) (l .labels) (l .smallest) (l .largest) (l .set)
 agrees c =
     let l = c .before .before in
-    let s = l .before .before .before .before in
+    let s = l .before .before .before .before .before in
     let a = s .args in
     replay-consistent (searchOf (a .kind .0)) (now (a .rows)) (now (a .ordering)) (a .k) (s .pre) (l .loop .inv)
 
@@ -63,20 +63,20 @@ is-beaten-requires : tie.Need-is-beaten-requires Inv-loop μ-loop
 is-beaten-requires c κs =
     let p = c .before .before .before .before in
     let v = p .before .before .before .before in
-    let a = v .before .before .before .before .before .before .args in
+    let a = v .before .before .before .before .before .before .before .args in
     (profile-own (searchOf (a .kind .0)) (getD (v .before .before .loop .labels) (v .vertex-at .result .0) 0) (p .profile-of .ensures), agrees v)
 
 -- whether the vertex is beaten
 answered : (c : tie.After-is-beaten Inv-loop μ-loop)
     → let v = c .before .before .before .before .before .before .before .before .before in
     let l = v .before .before in
-    let a = l .before .before .before .before .args in
+    let a = l .before .before .before .before .before .args in
     c .is-beaten .result ≡ stopsAt (searchOf (a .kind .0)) (now (a .rows)) (now (a .ordering)) (l .loop .j)
 answered c =
     let p = c .before .before .before .before .before in
     let v = p .before .before .before .before in
     let l = v .before .before in
-    let a = l .before .before .before .before .args in
+    let a = l .before .before .before .before .before .args in
     let k = searchOf (a .kind .0) in
     c .is-beaten .ensures
     ∙ ap (beatenIn k (l .loop .labels) (c .before .common .result)) (label-of k (getD (l .loop .labels) (v .vertex-at .result .0) 0) (p .profile-of .ensures))
@@ -86,7 +86,7 @@ returns : tie.Need-returns Inv-loop μ-loop
 returns c =
     let v = c .before .before .before .before .before .before .before .before .before .before in
     let l = v .before .before in
-    let s = l .before .before .before .before in
+    let s = l .before .before .before .before .before in
     let k = searchOf (s .args .kind .0) in
     let w = now (s .args .ordering) in
     let r = now (s .args .rows) in (
@@ -101,7 +101,7 @@ spread-requires : tie.Need-spread-requires Inv-loop μ-loop
 spread-requires c κs =
     let beaten = c .before .before .before .before .before in
     let v = beaten .before .before .before .before .before .before .before .before .before in
-    let s = v .before .before .before .before .before .before in
+    let s = v .before .before .before .before .before .before .before in
     omega (arith, v .before .loop-test .taken, s .pre .fits, s .pre .small)
 
 cast-insert : tie.Need-cast-insert Inv-loop μ-loop
@@ -123,7 +123,7 @@ add-j : tie.Need-add-j Inv-loop μ-loop
 add-j c =
     let beaten = c .before .before .before .before .before .before .before .before .before .before .before in
     let v = beaten .before .before .before .before .before .before .before .before .before in
-    let s = v .before .before .before .before .before .before in
+    let s = v .before .before .before .before .before .before .before in
     omega (arith, v .before .loop-test .taken, s .fits .k .fits)
 
 loop-less : tie.Need-loop-less Inv-loop μ-loop
@@ -138,7 +138,7 @@ loop-again c =
     let beaten = row .before .before in
     let v = beaten .before .before .before .before .before .before .before .before .before in
     let l = v .before .before in
-    let s = l .before .before .before .before in
+    let s = l .before .before .before .before .before in
     let k = searchOf (s .args .kind .0) in
     let w = now (s .args .ordering) in
     let r = now (s .args .rows) in
@@ -153,7 +153,7 @@ loop-again c =
 returns-2 : tie.Need-returns-2 Inv-loop μ-loop
 returns-2 c =
     let l = c .before in
-    let s = l .before .before .before .before in
+    let s = l .before .before .before .before .before in
     let k = searchOf (s .args .kind .0) in
     let w = now (s .args .ordering) in
     let r = now (s .args .rows) in

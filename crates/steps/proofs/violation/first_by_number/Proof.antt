@@ -18,10 +18,10 @@ use Rattle.steps.proofs.violation.first_by_number.Statement.{statement}
 use Rattle.steps.proofs.violation.first_by_number.Tie as tie
 
 abbrev Inv-loop : tie.InvT-loop
-Inv-loop kind rows labels smallest largest placed front i mine rest₀ rest = Scanned 64 front (λ c. unexcusedIn (searchOf (kind .0)) (i .0) (getD labels c 0) (mine .label)) rest
+Inv-loop kind columns labels smallest largest placed front i mine rest₀ rest = Scanned 64 front (λ c. unexcusedIn (searchOf (kind .0)) (i .0) (getD labels c 0) (mine .label)) rest
 
 abbrev μ-loop : tie.MeasureT-loop
-μ-loop kind rows labels smallest largest placed front i mine rest₀ rest = rest
+μ-loop kind columns labels smallest largest placed front i mine rest₀ rest = rest
 
 -- the smallest number of what is left is in it
 found : (c : tie.After-smallest Inv-loop μ-loop) → (c .smallest .result < 64) × T (member (c .before .before .loop .rest) (c .smallest .result))

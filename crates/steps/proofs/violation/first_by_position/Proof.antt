@@ -12,10 +12,10 @@ use Rattle.steps.proofs.violation.first_by_position.Statement.{statemen
 use Rattle.steps.proofs.violation.first_by_position.Tie as tie
 
 abbrev Inv-loop : tie.InvT-loop
-Inv-loop kind rows ordering k labels smallest largest placed front i mine middle behind p₀ p = Passed k (behindIn (searchOf (kind .0)) labels front (i .0) (mine .label) ordering middle) p × (middle < p)
+Inv-loop kind columns ordering k labels smallest largest placed front i mine middle behind p₀ p = Passed k (behindIn (searchOf (kind .0)) labels front (i .0) (mine .label) ordering middle) p × (middle < p)
 
 abbrev μ-loop : tie.MeasureT-loop
-μ-loop kind rows ordering k labels smallest largest placed front i mine middle behind p₀ p = k - p
+μ-loop kind columns ordering k labels smallest largest placed front i mine middle behind p₀ p = k - p
 
 add-behind : tie.Need-add-behind Inv-loop μ-loop
 add-behind c = search needs

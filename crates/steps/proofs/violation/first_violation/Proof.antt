@@ -17,11 +17,11 @@ use Rattle.steps.proofs.violation.first_violation.Tie as tie
 
 -- the position that the first search found
 starts : (c : tie.After-first-first)
-    → let a = c .before .before .before .args in
+    → let a = c .before .before .before .before .args in
     let i = c .first-first .result .0 in
     (i < a .j .0) × T (firstIn (searchOf (a .kind .0)) (a .rows .now) (a .ordering .now) (a .labels .now) (a .free) (a .j .0) (a .k) i)
 starts c =
-    let s = c .before .before .before in
+    let s = c .before .before .before .before in
     let a = s .args in
     first-starts (searchOf (a .kind .0)) (a .rows .now) (a .ordering .now) (a .labels .now) (a .free) (a .j .0) (a .k) (c .first-first .result .0) (s .pre .1) (c .first-first .ensures)
 
@@ -29,7 +29,7 @@ first-first-requires : tie.Need-first-first-requires
 first-first-requires c κs = search needs
 
 vertex-at-requires : tie.Need-vertex-at-requires
-vertex-at-requires c κs = let s = c .before .before .before in omega (arith, starts c .0, s .pre .0 .inside, s .pre .0 .long)
+vertex-at-requires c κs = let s = c .before .before .before .before in omega (arith, starts c .0, s .pre .0 .inside, s .pre .0 .long)
 
 vertex-at-requires-2 : tie.Need-vertex-at-requires-2
 vertex-at-requires-2 c κs = search needs
@@ -40,14 +40,14 @@ front-of-requires c κs = search needs
 profile-of-requires : tie.Need-profile-of-requires
 profile-of-requires c κs =
     let b = c .before in
-    let s = b .before .before .before .before .before in
+    let s = b .before .before .before .before .before .before in
     (omega (arith, b .vertex-at2 .ensures, s .pre .0 .small, s .pre .0 .vertices (s .args .j .0) (s .pre .0 .inside)), s .pre .0 .consistent)
 
 first-last-requires : tie.Need-first-last-requires
 first-last-requires c κs =
     let b = c .before .before in
     let f = b .before .before in
-    let s = f .before .before .before in
+    let s = f .before .before .before .before in
     let a = s .args in (
       record {
         long = s .pre .0 .long;
@@ -63,7 +63,7 @@ unfolding verdictOf
 returns c =
     let b = c .before .before .before in
     let f = b .before .before in
-    let s = f .before .before .before in
+    let s = f .before .before .before .before in
     let a = s .args in
     let k = searchOf (a .kind .0) in
     let i = f .first-first .result .0 in

@@ -10,7 +10,7 @@ use lib.ListN.{length, replicate}
 use Rattle.searches.specs.Answer.{refusalOf, openTests, firstRefusal, openAnswer}
 use Rattle.checks.proofs.Tried.{rows-fit}
 use Rattle.traversal.specs.State.{state, nothingOpen, opened}
-use Rattle.traversal.proofs.Copying.{behind-zeros}
+use Rattle.steps.proofs.Copying.{behind-zeros}
 use Rattle.traversal.proofs.Answered.{next-handed, kept-handed}
 use Rattle.traversal.proofs.Traversal.open.Statement.{statement}
 use Rattle.traversal.proofs.Traversal.open.Tie as tie
@@ -32,12 +32,12 @@ enum-told c = search needs
 
 accepted : (c : tie.After-enum-told)
     → let a = c .before .before .before .before .args in
-    none ≡ firstRefusal (openTests (a .kind .0) (now (a .rows)))
+    none ≡ firstRefusal (openTests (a .kind .0) (a .mark) (now (a .rows)))
 unfolding refusalOf
 accepted c = sym (ap refusalOf (c .enum-told .given .1)) ∙ c .before .before .open-refusal .ensures
 
 copy-requires : tie.Need-copy-requires
-copy-requires c κs = (rows-fit _ _ (accepted (c .before)), refl)
+copy-requires c κs = (rows-fit _ _ _ (accepted (c .before)), refl)
 
 returns-2 : tie.Need-returns-2
 unfolding refusalOf openAnswer opened
@@ -45,7 +45,7 @@ returns-2 c =
     let told = c .before .before in
     let a = told .before .before .before .before .args in
     let rows = now (a .rows) in (
-      ap (λ (copy : List ℕ). state (a .kind) (length rows) copy 0 (replicate 64 0)) (c .copy2 .ensures ∙ ap (λ (x : List ℕ). rows ++ x) (behind-zeros (length rows)))
+      ap (λ (copy : List ℕ). state (a .kind) (a .mark) (length rows) copy 0 (replicate 64 0)) (c .copy2 .ensures ∙ ap (λ (x : List ℕ). rows ++ x) (behind-zeros (length rows)))
           ∙ next-handed _ nothingOpen (accepted told),
       accepted told,
     )

@@ -38,13 +38,13 @@ accepted : (c : tie.After-enum-told)
 unfolding refusalOf
 accepted c = sym (ap refusalOf (c .enum-told .given .1)) ∙ c .before .before .place-refusal .ensures
 
-array-write-ordering : tie.Need-array-write-ordering
-array-write-ordering c =
+add-count : tie.Need-add-count
+add-count c =
     let a = c .before .before .before .before .before .before .before .before .args in
     omega (arith, place-room (a .self) (a .vertex .0) (accepted c))
 
-add-t18 : tie.Need-add-t18
-add-t18 c =
+array-write-ordering : tie.Need-array-write-ordering
+array-write-ordering c =
     let a = c .before .before .before .before .before .before .before .before .args in
     omega (arith, place-room (a .self) (a .vertex .0) (accepted c))
 
@@ -64,6 +64,6 @@ place-spec =
     enum-known-checked
     returns
     enum-told
+    add-count
     array-write-ordering
-    add-t18
     returns-2)

@@ -13,10 +13,10 @@ use Rattle.traversal.proofs.offers.open_below.Statement.{statement}
 use Rattle.traversal.proofs.offers.open_below.Tie as tie
 
 abbrev Inv-loop : tie.InvT-loop
-Inv-loop kind rows labels smallest largest placed free n set₀ v₀ set v = (v ≤ n) × (set ≡ setBelow v (openIn (searchOf (kind .0)) labels free))
+Inv-loop kind columns labels smallest largest placed free n set₀ v₀ set v = (v ≤ n) × (set ≡ setBelow v (openIn (searchOf (kind .0)) labels free))
 
 abbrev μ-loop : tie.MeasureT-loop
-μ-loop kind rows labels smallest largest placed free n set₀ v₀ set v = n - v
+μ-loop kind columns labels smallest largest placed free n set₀ v₀ set v = n - v
 
 loop-holds : tie.Need-loop-holds Inv-loop μ-loop
 unfolding setBelow

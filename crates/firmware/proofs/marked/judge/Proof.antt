@@ -1,4 +1,4 @@
--- `firmware::vezhanip_judge` meets its contract: refused unread, or judged on the plan's rows.
+-- `firmware::marked::judge` meets its contract: refused unread, or judged on the plan's rows.
 -- Assumes nothing.
 use mathlib.Core.Path.{_≡_, refl, sym, ap, _∙_}
 use mathlib.Core.Option.{none}
@@ -7,8 +7,8 @@ use Rattle.searches.specs.Answer.{firstRefusal, refusalOf}
 use Rattle.firmware.specs.Code.{readTests}
 use Rattle.firmware.proofs.Reading.{part-length, part-within}
 use Rattle.firmware.proofs.Unread.{read, judge-unread, judge-read}
-use Rattle.firmware.proofs.vezhanip_judge.Statement.{statement}
-use Rattle.firmware.proofs.vezhanip_judge.Tie as tie
+use Rattle.firmware.proofs.marked.judge.Statement.{statement}
+use Rattle.firmware.proofs.marked.judge.Tie as tie
 
 refusal-requires : tie.Need-refusal-requires
 refusal-requires c κs = tt
@@ -24,7 +24,7 @@ unfolding refusalOf
 returns c =
     let a = c .before .before .before .before .before .before .before .args in
     c .number .ensures
-    ∙ judge-unread (a .kind) (now (a .plan)) (now (a .walk)) (sym (ap refusalOf (c .before .before .checked .given .1)) ∙ c .before .before .before .before .refusal .ensures)
+    ∙ judge-unread (a .kind) (now (a .plan)) (a .mark) (now (a .walk)) (sym (ap refusalOf (c .before .before .checked .given .1)) ∙ c .before .before .before .before .refusal .ensures)
 
 enum-told : tie.Need-enum-told
 enum-told c = c .match .keys2
@@ -57,14 +57,14 @@ code-of-requires c κs = tt
 returns-2 : tie.Need-returns-2
 returns-2 c =
     let a = c .before .before .before .before .before .before .before .before .before .before .args in
-    judge-read (a .kind) (now (a .plan)) (now (a .walk))
+    judge-read (a .kind) (now (a .plan)) (a .mark) (now (a .walk))
     (accepted (c .before .before .before .before .before))
     (c .before .before .before .decode .ensures)
     (c .before .judge .ensures)
     (c .code-of .ensures)
 
-pub vezhanip-judge-spec : {M : Type 1} → statement M
-vezhanip-judge-spec =
+pub judge-spec : {M : Type 1} → statement M
+judge-spec =
     tie.close
     (tie.spec
     refusal-requires

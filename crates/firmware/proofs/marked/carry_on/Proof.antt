@@ -1,4 +1,4 @@
--- `firmware::vezhanip_carry_on` meets its contract: refused unread, or carried on along the plan's rows.
+-- `firmware::marked::carry_on` meets its contract: refused unread, or carried on along the plan's rows.
 -- Assumes nothing.
 use mathlib.Core.Path.{_≡_, refl, sym, ap, _∙_}
 use mathlib.Core.Option.{none}
@@ -8,8 +8,8 @@ use Rattle.searches.specs.Answer.{firstRefusal, refusalOf}
 use Rattle.firmware.specs.Code.{readTests}
 use Rattle.firmware.proofs.Reading.{part-length, part-within}
 use Rattle.firmware.proofs.Unread.{read, carryOn-unread, carryOn-read}
-use Rattle.firmware.proofs.vezhanip_carry_on.Statement.{statement}
-use Rattle.firmware.proofs.vezhanip_carry_on.Tie as tie
+use Rattle.firmware.proofs.marked.carry_on.Statement.{statement}
+use Rattle.firmware.proofs.marked.carry_on.Tie as tie
 
 refusal-requires : tie.Need-refusal-requires
 refusal-requires c κs = tt
@@ -24,7 +24,7 @@ returns : tie.Need-returns
 unfolding refusalOf
 returns c =
     let a = c .before .before .before .before .before .before .before .before .args in
-    let unread = carryOn-unread (a .kind) (now (a .plan)) (now (a .preference)) (now (a .output)) (a .k)
+    let unread = carryOn-unread (a .kind) (now (a .plan)) (a .mark) (now (a .preference)) (now (a .output)) (a .k)
     (sym (ap refusalOf (c .before .before .checked .given .1)) ∙ c .before .before .before .before .refusal .ensures) in
     (c .number .ensures ∙ unread .0, unread .1)
 
@@ -62,15 +62,15 @@ same-length c = search needs
 returns-2 : tie.Need-returns-2
 returns-2 c =
     let a = c .before .before .before .before .before .before .before .before .before .before .before .before .before .before .args in
-    carryOn-read (a .kind) (now (a .plan)) (now (a .preference)) (now (a .output)) (a .k)
+    carryOn-read (a .kind) (now (a .plan)) (a .mark) (now (a .preference)) (now (a .output)) (a .k)
     (accepted (c .before .before .before .before .before .before .before .before))
     (c .before .before .before .before .before .before .decode .ensures)
     (c .before .before .before .carry-on .ensures .0)
     (c .before .before .before .carry-on .ensures .1)
     (c .number-of .ensures)
 
-pub vezhanip-carry-on-spec : {M : Type 1} → statement M
-vezhanip-carry-on-spec =
+pub carry-on-spec : {M : Type 1} → statement M
+carry-on-spec =
     tie.close
     (tie.spec
     refusal-requires

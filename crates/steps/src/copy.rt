@@ -1,4 +1,4 @@
-// An open walk's own copy of the rows.
+// Rows copied to the front of an array.
 ghost use mathlib.Core.Path.{_≡_};
 ghost use mathlib.Core.List.{_++_};
 ghost use Prim.Native.Nat.{_≤_};
