@@ -2,7 +2,7 @@
 
 use std::fmt;
 
-use crate::definition::{Graph, Kind, KINDS};
+use crate::definition::{Graph, Kind, Mark, KINDS};
 use crate::graphs;
 use crate::orderings;
 use crate::random::Random;
@@ -10,6 +10,7 @@ use crate::random::Random;
 #[derive(Clone)]
 pub struct JudgeCall {
     pub kind: Kind,
+    pub mark: Mark,
     pub plan: Vec<u8>,
     pub walk: Vec<u8>,
 }
@@ -17,6 +18,7 @@ pub struct JudgeCall {
 #[derive(Clone)]
 pub struct CarryOnCall {
     pub kind: Kind,
+    pub mark: Mark,
     pub plan: Vec<u8>,
     pub tie_break: Vec<u8>,
     pub output: Vec<u8>,
@@ -35,24 +37,24 @@ fn random_size(random: &mut Random) -> usize {
 }
 
 /// A judge call that no refusal applies to.
-pub fn random_judge(random: &mut Random) -> JudgeCall {
+pub fn random_judge(random: &mut Random, mark: Mark) -> JudgeCall {
     let n = random_size(random);
     let kind = random.pick(&KINDS);
-    let plan = graphs::random_plan(random, n);
+    let plan = graphs::random_plan(random, mark, n);
     let walk = orderings::random_walk(random, kind, &Graph::from_plan(&plan));
-    JudgeCall { kind, plan, walk }
+    JudgeCall { kind, mark, plan, walk }
 }
 
 /// A carry-on call that no refusal applies to, but for 12.
-pub fn random_carry_on(random: &mut Random) -> CarryOnCall {
+pub fn random_carry_on(random: &mut Random, mark: Mark) -> CarryOnCall {
     let n = random_size(random);
     let kind = random.pick(&KINDS);
-    let plan = graphs::random_plan(random, n);
+    let plan = graphs::random_plan(random, mark, n);
     let start = random_start(random, kind, &Graph::from_plan(&plan));
     let beyond = random.pick(&[0, 0, 1, 7, 64]);
     let mut output: Vec<u8> = (0..n + beyond).map(|_| random.byte()).collect();
     output[..start.len()].copy_from_slice(&start);
-    CarryOnCall { kind, plan, tie_break: random.permutation(n), output, k: start.len() }
+    CarryOnCall { kind, mark, plan, tie_break: random.permutation(n), output, k: start.len() }
 }
 
 /// A walk so far: none, one that passes, or one that may fail.
@@ -89,7 +91,8 @@ fn flip(plan: &mut [u8], u: usize, v: usize) {
     plan[8 * u + v / 8] ^= 1 << (v % 8);
 }
 
-/// Damages the plan as refusals 2 to 5 name it, where it has the points for that.
+/// Damages the plan as refusals 2 to 5 name it, where it has the points for that. A one-way plan stays valid where a
+/// two-way one is refused with 5.
 fn damage_plan(random: &mut Random, plan: &mut Vec<u8>) {
     let n = plan.len() / 8;
     let u = random.below(n.max(1));
@@ -198,7 +201,7 @@ fn show_plan(f: &mut fmt::Formatter, plan: &[u8]) -> fmt::Result {
     if n <= 64 {
         let graph = Graph::from_plan(plan);
         for u in 0..n {
-            let set: Vec<usize> = (0..64).filter(|&v| graph.linked(u, v)).collect();
+            let set: Vec<usize> = (0..64).filter(|&v| graph.leads_to(u, v)).collect();
             writeln!(f, "    row {u}: bits {set:?}")?;
         }
     }
@@ -207,7 +210,7 @@ fn show_plan(f: &mut fmt::Formatter, plan: &[u8]) -> fmt::Result {
 
 impl fmt::Display for JudgeCall {
     fn fmt(&self, f: &mut fmt::Formatter) -> fmt::Result {
-        writeln!(f, "judge, kind {}", self.kind)?;
+        writeln!(f, "judge, kind {}, {:?}", self.kind, self.mark)?;
         show_plan(f, &self.plan)?;
         write!(f, "  walk: {:?}", self.walk)
     }
@@ -215,7 +218,7 @@ impl fmt::Display for JudgeCall {
 
 impl fmt::Display for CarryOnCall {
     fn fmt(&self, f: &mut fmt::Formatter) -> fmt::Result {
-        writeln!(f, "carry-on, kind {}", self.kind)?;
+        writeln!(f, "carry-on, kind {}, {:?}", self.kind, self.mark)?;
         show_plan(f, &self.plan)?;
         writeln!(f, "  preference list: {:?}", self.tie_break)?;
         writeln!(f, "  output before: {:?}", self.output)?;

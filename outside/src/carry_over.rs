@@ -5,7 +5,7 @@
 //!   smallest_witnesses   how small such walks can be, by trying all walks over all small plans
 
 use crate::definition::{
-    judge, Kind, Vertex, BFS, DFS, GENERIC, KINDS, LEX_BFS, LEX_DFS, MCS, MNS,
+    judge, Kind, Mark, Vertex, BFS, DFS, GENERIC, KINDS, LEX_BFS, LEX_DFS, MCS, MNS,
 };
 use crate::{graphs, orderings};
 
@@ -27,7 +27,7 @@ pub const CARRIES_OVER: Table<bool> = [
     [YES, NO, NO, NO, NO, YES, YES],  // from MCS
 ];
 
-/// A plan, and a walk over all of its points but one.
+/// A two-way plan, and a walk over all of its points but one.
 pub struct Example {
     pub n: usize,
     /// The smaller point first, ascending.
@@ -120,15 +120,15 @@ pub fn pairs<Entry>(table: &Table<Entry>, such: impl Fn(&Entry) -> bool) -> Vec<
     all.filter(|&(from, to)| such(&table[from as usize][to as usize])).collect()
 }
 
-/// The size of the smallest witness, if there is one among all walks over all plans of up to n points.
-pub fn smallest_witnesses(n: usize) -> Table<Option<Size>> {
+/// The size of the smallest witness, if there is one among all walks over all plans of up to n points with this mark.
+pub fn smallest_witnesses(mark: Mark, n: usize) -> Table<Option<Size>> {
     let mut smallest: Table<Option<Size>> = Default::default();
     for n in 0..=n {
         let walks = orderings::all_partial(n);
-        for plan in graphs::all_plans(n) {
-            let links = graphs::links(&plan).len();
+        for plan in graphs::all_plans(mark, n) {
+            let links = graphs::count_links(mark, &plan);
             for walk in &walks {
-                let passes = KINDS.map(|kind| judge(kind, &plan, walk) == 0);
+                let passes = KINDS.map(|kind| judge(kind, mark, &plan, walk) == 0);
                 enter(&mut smallest, passes, (n, links, walk.len()));
             }
         }

@@ -1,7 +1,8 @@
-//! The definitions of 01, and of MCS and the charge from 02, computed as they read, by trying everything.
+//! The definitions of 01, and of MCS, the charge and one-way plans from 02, computed as they read, by trying everything.
 //!
+//!   Mark                        whether the links of a plan have a direction       [02: K4]
 //!   Graph                       a plan: one row of 64 bits for each point          [01: plan]
-//!   linked u v                  bit v of row u is set                              [01: linked]
+//!   leads_to u v                bit v of row u is set: u is a neighbour of v       [01: linked; 02: K4]
 //!   label ordering v            which places hold a neighbour of v                 [01: label]
 //!   outranks kind c b           a point with label c is ahead of one with label b  [01: ahead; 02: K1]
 //!   offered kind ordering       the points that may come next                      [01: offered]
@@ -30,6 +31,16 @@ pub const MCS: Kind = 6;
 pub const KINDS: [Kind; 7] = [GENERIC, BFS, DFS, LEX_BFS, LEX_DFS, MNS, MCS];
 pub const KIND_NAMES: [&str; 7] = ["Generic", "BFS", "DFS", "LexBFS", "LexDFS", "MNS", "MCS"];
 
+/// The mark of a plan. Two-way, every link stands in both of its rows; one-way, bit v of row u means that u leads to v
+/// only.
+#[derive(Clone, Copy, PartialEq, Eq, Debug)]
+pub enum Mark {
+    TwoWay,
+    OneWay,
+}
+
+pub const MARKS: [Mark; 2] = [Mark::TwoWay, Mark::OneWay];
+
 /// What C gets for the triple 0, 0, 0.
 pub const FAILED: u32 = 16_777_216;
 
@@ -48,7 +59,9 @@ impl Graph {
         self.rows.len()
     }
 
-    pub fn linked(&self, u: Vertex, v: Vertex) -> bool {
+    /// Bit v of row u is set. In a two-way plan u and v are linked, in a one-way plan u leads to v. Either way u is a
+    /// neighbour of v.
+    pub fn leads_to(&self, u: Vertex, v: Vertex) -> bool {
         self.rows[u] >> v & 1 == 1
     }
 
@@ -66,7 +79,7 @@ fn bytes(rows: &[u64]) -> Vec<u8> {
 
 /// For each place of the walk, whether a neighbour of v stands there.
 pub fn label(graph: &Graph, ordering: &[u8], v: Vertex) -> Vec<bool> {
-    ordering.iter().map(|&u| graph.linked(u as Vertex, v)).collect()
+    ordering.iter().map(|&u| graph.leads_to(u as Vertex, v)).collect()
 }
 
 fn smallest(label: &[bool]) -> Option<Position> {
@@ -137,22 +150,22 @@ fn point_twice(list: &[u8]) -> bool {
     (0..list.len()).any(|i| list[..i].contains(&list[i]))
 }
 
-/// Refusals 1 to 5.
-fn plan_refusal(kind: Kind, plan: &[u8]) -> Option<u32> {
+/// Refusals 1 to 5; 5 is given for two-way plans only.
+fn plan_refusal(kind: Kind, mark: Mark, plan: &[u8]) -> Option<u32> {
     let graph = Graph::from_plan(plan);
     let n = graph.size();
-    let bit_outside = |u: Vertex| (n..64).any(|v| graph.linked(u, v));
-    let one_way = |u: Vertex| (0..n).any(|v| graph.linked(u, v) && !graph.linked(v, u));
+    let bit_outside = |u: Vertex| (n..64).any(|v| graph.leads_to(u, v));
+    let one_way = |u: Vertex| (0..n).any(|v| graph.leads_to(u, v) && !graph.leads_to(v, u));
     first_of(&[
         (1, &|| kind > 6),
         (2, &|| n > 64 || !plan.len().is_multiple_of(8)),
         (3, &|| (0..n).any(bit_outside)),
-        (4, &|| (0..n).any(|u| graph.linked(u, u))),
-        (5, &|| (0..n).any(one_way)),
+        (4, &|| (0..n).any(|u| graph.leads_to(u, u))),
+        (5, &|| mark == Mark::TwoWay && (0..n).any(one_way)),
     ])
 }
 
-fn judge_refusal(kind: Kind, plan: &[u8], walk: &[u8]) -> Option<u32> {
+fn judge_refusal(kind: Kind, mark: Mark, plan: &[u8], walk: &[u8]) -> Option<u32> {
     let n = plan.len() / 8;
     let walk_refusal = || {
         first_of(&[
@@ -161,11 +174,12 @@ fn judge_refusal(kind: Kind, plan: &[u8], walk: &[u8]) -> Option<u32> {
             (9, &|| point_twice(walk)),
         ])
     };
-    plan_refusal(kind, plan).or_else(walk_refusal)
+    plan_refusal(kind, mark, plan).or_else(walk_refusal)
 }
 
 fn carry_on_refusal(
     kind: Kind,
+    mark: Mark,
     plan: &[u8],
     tie_break: &[u8],
     output: &[u8],
@@ -185,7 +199,7 @@ fn carry_on_refusal(
             (12, &fails),
         ])
     };
-    plan_refusal(kind, plan).or_else(list_refusal)
+    plan_refusal(kind, mark, plan).or_else(list_refusal)
 }
 
 // ---- The calls ----
@@ -195,8 +209,8 @@ pub fn failure_code(a: Vertex, b: Vertex, c: Vertex) -> u32 {
     FAILED + 65_536 * a as u32 + 256 * b as u32 + c as u32
 }
 
-pub fn judge(kind: Kind, plan: &[u8], walk: &[u8]) -> u32 {
-    if let Some(number) = judge_refusal(kind, plan, walk) {
+pub fn judge(kind: Kind, mark: Mark, plan: &[u8], walk: &[u8]) -> u32 {
+    if let Some(number) = judge_refusal(kind, mark, plan, walk) {
         return number;
     }
     match first_violation(kind, &Graph::from_plan(plan), walk) {
@@ -208,12 +222,13 @@ pub fn judge(kind: Kind, plan: &[u8], walk: &[u8]) -> u32 {
 /// The answer, and the output list as it is afterwards.
 pub fn carry_on(
     kind: Kind,
+    mark: Mark,
     plan: &[u8],
     tie_break: &[u8],
     output: &[u8],
     k: usize,
 ) -> (u32, Vec<u8>) {
-    if let Some(number) = carry_on_refusal(kind, plan, tie_break, output, k) {
+    if let Some(number) = carry_on_refusal(kind, mark, plan, tie_break, output, k) {
         return (number, output.to_vec());
     }
     let graph = Graph::from_plan(plan);

@@ -1,12 +1,20 @@
-//! The library's two C functions, called on guarded copies of the lists.
+//! The library's four C functions, two for each mark of a plan, called on guarded copies of the lists.
 //!
 //! Each list is passed from the middle of a larger buffer. After the call every
 //! byte of the buffers is compared with what it must be.
 
-use crate::definition::Kind;
+use crate::definition::{Kind, Mark};
 
 extern "C" {
     fn vezhanip_judge(
+        kind: u8,
+        plan: *const u8,
+        plan_len: usize,
+        walk: *const u8,
+        walk_len: usize,
+    ) -> u32;
+
+    fn vezhanip_judge_one_way(
         kind: u8,
         plan: *const u8,
         plan_len: usize,
@@ -24,15 +32,26 @@ extern "C" {
         output_len: usize,
         k: usize,
     ) -> u32;
+
+    fn vezhanip_carry_on_one_way(
+        kind: u8,
+        plan: *const u8,
+        plan_len: usize,
+        preference: *const u8,
+        preference_len: usize,
+        output: *mut u8,
+        output_len: usize,
+        k: usize,
+    ) -> u32;
 }
 
-/// Judge without guards, for the timing.
+/// Judge on a two-way plan without guards, for the timing.
 pub fn judge(kind: Kind, plan: &[u8], walk: &[u8]) -> u32 {
     // SAFETY: each pointer goes with the length of its list.
     unsafe { vezhanip_judge(kind, plan.as_ptr(), plan.len(), walk.as_ptr(), walk.len()) }
 }
 
-/// Carry-on without guards, for the timing.
+/// Carry-on on a two-way plan without guards, for the timing.
 pub fn carry_on(kind: Kind, plan: &[u8], tie_break: &[u8], output: &mut [u8], k: usize) -> u32 {
     // SAFETY: each pointer goes with the length of its list, and nothing else refers to `output`.
     unsafe {
@@ -101,13 +120,16 @@ impl Guarded {
 }
 
 /// Judge's answer, or which byte it altered.
-pub fn guarded_judge(kind: Kind, plan: &[u8], walk: &[u8]) -> Result<u32, String> {
+pub fn guarded_judge(kind: Kind, mark: Mark, plan: &[u8], walk: &[u8]) -> Result<u32, String> {
+    let judge = match mark {
+        Mark::TwoWay => vezhanip_judge,
+        Mark::OneWay => vezhanip_judge_one_way,
+    };
     let mut plan = Guarded::new("plan", plan);
     let mut walk = Guarded::new("walk", walk);
     // SAFETY: each pointer goes with the length of its list.
-    let answer = unsafe {
-        vezhanip_judge(kind, plan.pointer(), plan.length(), walk.pointer(), walk.length())
-    };
+    let answer =
+        unsafe { judge(kind, plan.pointer(), plan.length(), walk.pointer(), walk.length()) };
     plan.check(false)?;
     walk.check(false)?;
     Ok(answer)
@@ -116,17 +138,22 @@ pub fn guarded_judge(kind: Kind, plan: &[u8], walk: &[u8]) -> Result<u32, String
 /// Carry-on's answer and the output list afterwards, or which other byte it altered.
 pub fn guarded_carry_on(
     kind: Kind,
+    mark: Mark,
     plan: &[u8],
     tie_break: &[u8],
     output: &[u8],
     k: usize,
 ) -> Result<(u32, Vec<u8>), String> {
+    let carry_on = match mark {
+        Mark::TwoWay => vezhanip_carry_on,
+        Mark::OneWay => vezhanip_carry_on_one_way,
+    };
     let mut plan = Guarded::new("plan", plan);
     let mut tie_break = Guarded::new("preference list", tie_break);
     let mut output = Guarded::new("output list", output);
     // SAFETY: each pointer goes with the length of its list, and no two lists overlap.
     let answer = unsafe {
-        vezhanip_carry_on(
+        carry_on(
             kind,
             plan.pointer(),
             plan.length(),

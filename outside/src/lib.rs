@@ -3,7 +3,7 @@
 //!
 //!   definition   the sentences of 01 and 02 as loops
 //!   bitset       a fast implementation without proof, for the timing
-//!   entry        the library's two C functions, called with guarded lists
+//!   entry        the library's four C functions, called with guarded lists
 //!   graphs       plans to try
 //!   orderings    walks and preference lists to try
 //!   carry_over   which kinds a walk passes because it passes another

@@ -2,7 +2,7 @@
 
 use crate::calls::{random_judge, JudgeCall};
 use crate::definition::sheet::{field, line, write};
-use crate::definition::{Graph, KINDS};
+use crate::definition::{Graph, Mark, KINDS};
 use crate::graphs;
 use crate::orderings;
 use crate::random::Random;
@@ -216,7 +216,7 @@ pub fn several_faults() -> Vec<Sheet> {
 pub fn of_each_size(random: &mut Random) -> Vec<Sheet> {
     let mut sheets = Vec::new();
     for n in 0..=64 {
-        let plan = graphs::random_plan(random, n);
+        let plan = graphs::random_plan(random, Mark::TwoWay, n);
         let kind = random.pick(&KINDS);
         let walk = orderings::random_walk(random, kind, &Graph::from_plan(&plan));
         sheets.push(of(&plan, &walk));
@@ -238,7 +238,7 @@ pub fn of_each_size(random: &mut Random) -> Vec<Sheet> {
 
 /// A sound sheet, mostly a small one.
 pub fn random_sheet(random: &mut Random) -> Sheet {
-    let JudgeCall { plan, walk, .. } = random_judge(random);
+    let JudgeCall { plan, walk, .. } = random_judge(random, Mark::TwoWay);
     of(&plan, &walk)
 }
 

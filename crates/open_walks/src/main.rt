@@ -1,7 +1,10 @@
-// Open walks played from a fixed list of calls: on a plan in one piece and one in two, for each kind; refused opens; damaged states.
+// Open walks played from a fixed list of calls: on a plan in one piece and one in two, and on two one-way plans, for each kind; on a plan whose links
+// all go both ways as a one-way plan; damaged states of either mark; opens of either mark, most of them refused.
 // A line for each call: the kind, the call (a point to place, or 254 for taking back), its answer (0, or a refusal's number), what `offered`
-// then answers, its set, how many points there are and how many are placed, and the first five places.
+// then answers, its set, the mark of the open walk (0 two-way, 1 one-way), how many points there are and how many are placed, and the first five
+// places. The line of an open has the mark that was asked for in the place of the call.
 use searches::Kind;
+use searches::Mark;
 use searches::Outcome;
 use searches::Vertex;
 use traversal::Traversal;
@@ -12,12 +15,25 @@ const RING: [u64; 4] = [10, 5, 10, 5];
 // The links 0-1, 0-2, 1-2, 1-3, and a point by itself.
 const PIECES: [u64; 5] = [6, 13, 3, 2, 0];
 
+// One-way: 0 leads to 1 and 3, 1 to 2 and 3, 2 to 4, 3 to 2, 4 to 0. After 1 and 3, both lead to 2 and none to 0, which leads to both.
+const INFLOW: [u64; 5] = [10, 12, 16, 4, 1];
+
+// One-way: 1 leads to 2 and 3, 2 to 4, 3 to 0 and 4, 4 to 1, and 0 and 4 to each other.
+const BRANCHES: [u64; 5] = [16, 12, 16, 17, 3];
+
 const TAKE_BACK: u8 = 254;
 
 fn answer(outcome: Outcome) -> u64 {
     match outcome {
         Outcome::Done => 0,
         Outcome::Refused(refusal) => checks::number::number(refusal) as u64,
+    }
+}
+
+fn number(mark: Mark) -> u64 {
+    match mark {
+        Mark::TwoWay => 0,
+        Mark::OneWay => 1,
     }
 }
 
@@ -43,9 +59,11 @@ fn shown(traversal: Traversal) -> Traversal {
     let seen = traversal.offered();
     let outcome = seen.outcome;
     let next = seen.traversal;
+    let mark = next.mark;
     let places = next.ordering;
     show(answer(outcome));
     show(seen.set);
+    show(number(mark));
     show(next.n as u64);
     show(next.k as u64);
     show_places(&places);
@@ -68,8 +86,8 @@ fn step(traversal: Traversal, call: u8) -> Traversal {
     shown(next)
 }
 
-fn play(kind: u8, rows: &[u64]) {
-    let opened = Traversal::open(Kind(kind), rows);
+fn play(kind: u8, mark: Mark, rows: &[u64]) {
+    let opened = Traversal::open(Kind(kind), mark, rows);
     let t = opened.traversal;
     let t = step(t, TAKE_BACK);
     let t = step(t, 1);
@@ -89,12 +107,13 @@ fn play(kind: u8, rows: &[u64]) {
     step(t, 3);
 }
 
-// What an open that is refused hands back: no walk, of kind 0, on which nothing is offered.
-fn refused(kind: u8, rows: &[u64]) {
-    let opened = Traversal::open(Kind(kind), rows);
+// What an open hands back; refused, a two-way open walk of kind 0 without points.
+fn open(kind: u8, mark: Mark, rows: &[u64]) {
+    let opened = Traversal::open(Kind(kind), mark, rows);
     let outcome = opened.outcome;
     let t = opened.traversal;
     io::print_decimal(1, kind as u64);
+    show(number(mark));
     show(answer(outcome));
     let t = shown(t);
     let t = step(t, 0);
@@ -102,9 +121,10 @@ fn refused(kind: u8, rows: &[u64]) {
 }
 
 // An open walk on the ring that nobody opened, with some of its parts as they are given here: `first_row` and `last_row` of its 64 rows, and
-// `first`, `second` and `last` of its 64 places. Each call hands it back as it is.
+// `first`, `second` and `last` of its 64 places. Where it is damaged, each call hands it back as it is.
 fn made(
     kind: u8,
+    mark: Mark,
     n: usize,
     k: usize,
     first_row: u64,
@@ -125,6 +145,7 @@ fn made(
     ordering[63] = last;
     let t = Traversal {
         kind: Kind(kind),
+        mark,
         n,
         rows,
         k,
@@ -135,39 +156,63 @@ fn made(
 }
 
 // Well formed at first, then with one part damaged at a time.
-fn damaged(kind: u8) {
-    made(kind, 4, 1, 10, 0, 1, 0, 0);
-    made(kind, 65, 1, 10, 0, 1, 0, 0);
-    made(kind, 4, 65, 10, 0, 1, 0, 0);
-    made(kind, 4, 5, 10, 0, 1, 0, 0);
-    made(kind, 4, 1, 26, 0, 1, 0, 0);
-    made(kind, 4, 1, 11, 0, 1, 0, 0);
-    made(kind, 4, 1, 2, 0, 1, 0, 0);
-    made(kind, 4, 1, 10, 1, 1, 0, 0);
-    made(kind, 4, 1, 10, 0, 7, 0, 0);
-    made(kind, 4, 2, 10, 0, 1, 1, 0);
-    made(kind, 4, 2, 10, 0, 1, 3, 0);
-    made(kind, 4, 1, 10, 0, 1, 3, 0);
-    made(kind, 4, 1, 10, 0, 1, 0, 3);
+fn damaged(kind: u8, mark: Mark) {
+    made(kind, mark, 4, 1, 10, 0, 1, 0, 0);
+    made(kind, mark, 65, 1, 10, 0, 1, 0, 0);
+    made(kind, mark, 4, 65, 10, 0, 1, 0, 0);
+    made(kind, mark, 4, 5, 10, 0, 1, 0, 0);
+    made(kind, mark, 4, 1, 26, 0, 1, 0, 0);
+    made(kind, mark, 4, 1, 11, 0, 1, 0, 0);
+    made(kind, mark, 4, 1, 10, 1, 1, 0, 0);
+    made(kind, mark, 4, 1, 10, 0, 7, 0, 0);
+    made(kind, mark, 4, 2, 10, 0, 1, 1, 0);
+    made(kind, mark, 4, 2, 10, 0, 1, 3, 0);
+    made(kind, mark, 4, 1, 10, 0, 1, 3, 0);
+    made(kind, mark, 4, 1, 10, 0, 1, 0, 3);
+}
+
+// On a ring in which 3 leads to 0 and 0 not to 3: damaged if two-way. If one-way, the walks 1 and 3 0 pass, and 0 3 fails.
+fn valve(kind: u8, mark: Mark) {
+    made(kind, mark, 4, 1, 2, 0, 1, 0, 0);
+    made(kind, mark, 4, 2, 2, 0, 3, 0, 0);
+    made(kind, mark, 4, 2, 2, 0, 0, 3, 0);
 }
 
 fn played(kind: u8) {
     let ring = RING;
     let pieces = PIECES;
-    play(kind, &ring);
-    play(kind, &pieces);
-    damaged(kind);
+    let inflow = INFLOW;
+    let branches = BRANCHES;
+    play(kind, Mark::TwoWay, &ring);
+    play(kind, Mark::TwoWay, &pieces);
+    play(kind, Mark::OneWay, &inflow);
+    play(kind, Mark::OneWay, &branches);
+    damaged(kind, Mark::TwoWay);
+    valve(kind, Mark::TwoWay);
+    valve(kind, Mark::OneWay);
 }
 
-fn main() {
+// Refused with 1 to 4 under either mark. The last two have links that go one way only: refused with 5 if two-way, opened if one-way.
+fn opens(mark: Mark) {
     let ring = RING;
     let crowd = [0u64; 65];
     let mut outside = RING;
     outside[0] = 26;
     let mut looped = RING;
     looped[0] = 11;
-    let mut one_way = RING;
-    one_way[0] = 2;
+    let mut valved = RING;
+    valved[0] = 2;
+    let inflow = INFLOW;
+    open(7, mark, &ring);
+    open(0, mark, &crowd);
+    open(1, mark, &outside);
+    open(2, mark, &looped);
+    open(3, mark, &valved);
+    open(6, mark, &inflow);
+}
+
+fn main() {
+    let ring = RING;
     played(0);
     played(1);
     played(2);
@@ -175,10 +220,10 @@ fn main() {
     played(4);
     played(5);
     played(6);
-    damaged(7);
-    refused(7, &ring);
-    refused(0, &crowd);
-    refused(1, &outside);
-    refused(2, &looped);
-    refused(3, &one_way);
+    play(6, Mark::OneWay, &ring);
+    damaged(6, Mark::OneWay);
+    damaged(7, Mark::TwoWay);
+    damaged(7, Mark::OneWay);
+    opens(Mark::TwoWay);
+    opens(Mark::OneWay);
 }

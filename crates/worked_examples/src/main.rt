@@ -3,6 +3,7 @@
 // An answer is 0 for a pass or a finished call, a refusal's number, or 99 for a failed walk.
 use searches::Judgement;
 use searches::Kind;
+use searches::Mark;
 use searches::Outcome;
 use searches::Refusal;
 
@@ -175,10 +176,10 @@ fn line(kind: u8) {
     let crowd = [0u64; 65];
     let mut output = WALK;
     io::print_decimal(1, kind as u64);
-    show(verdict(engine::judge(Kind(kind), &rows[..0], &walk[..0])));
-    show(verdict(engine::judge(Kind(kind), &rows, &walk)));
-    show(verdict(engine::judge(Kind(kind), &crowd, &walk[..0])));
-    show(answer(engine::carry_on(Kind(kind), &rows, &walk, &mut output, 64)));
+    show(verdict(engine::judge(Kind(kind), Mark::TwoWay, &rows[..0], &walk[..0])));
+    show(verdict(engine::judge(Kind(kind), Mark::TwoWay, &rows, &walk)));
+    show(verdict(engine::judge(Kind(kind), Mark::TwoWay, &crowd, &walk[..0])));
+    show(answer(engine::carry_on(Kind(kind), Mark::TwoWay, &rows, &walk, &mut output, 64)));
     show(check::same(&output, &walk) as u64);
     io::write_all(1, b"\n");
 }

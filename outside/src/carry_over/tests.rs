@@ -1,5 +1,5 @@
 use super::*;
-use crate::definition::{label, Graph, FAILED};
+use crate::definition::{label, Graph, FAILED, MARKS};
 
 #[test]
 fn the_table_says_yes_where_02_does() {
@@ -17,8 +17,8 @@ fn there_is_a_witness_for_each_no() {
     let shown: Vec<(Kind, Kind)> = WITNESSES.iter().map(|&(from, to, _)| (from, to)).collect();
     assert_eq!(shown, pairs(&CARRIES_OVER, |&entry| entry == NO));
     for (from, to, example) in WITNESSES {
-        assert_eq!(judge(from, &example.plan(), example.walk), 0);
-        assert!(judge(to, &example.plan(), example.walk) >= FAILED);
+        assert_eq!(judge(from, Mark::TwoWay, &example.plan(), example.walk), 0);
+        assert!(judge(to, Mark::TwoWay, &example.plan(), example.walk) >= FAILED);
     }
 }
 
@@ -53,7 +53,9 @@ fn the_two_points_of_an_example_have_these_labels() {
 
 #[test]
 fn with_three_points_every_pass_carries_over() {
-    assert_eq!(smallest_witnesses(3), Table::default());
+    for mark in MARKS {
+        assert_eq!(smallest_witnesses(mark, 3), Table::default());
+    }
 }
 
 #[test]

@@ -6,13 +6,13 @@
 
 use std::cmp::Reverse;
 
-use super::{begins_run, bytes, first_of, judge_refusal, Graph, Kind, Vertex};
+use super::{begins_run, bytes, first_of, judge_refusal, Graph, Kind, Mark, Vertex};
 
 /// Each placed point's minutes, plus 7 for each placed point after the first that is not linked to the one placed
-/// directly before it.
+/// directly before it; in a one-way plan, where the earlier point does not lead to the next.
 pub fn minutes_of(graph: &Graph, walk: &[u8], minutes: &[u16]) -> u64 {
     let own: u64 = walk.iter().map(|&v| minutes[v as usize] as u64).sum();
-    let jump = |pair: &&[u8]| !graph.linked(pair[0] as Vertex, pair[1] as Vertex);
+    let jump = |pair: &&[u8]| !graph.leads_to(pair[0] as Vertex, pair[1] as Vertex);
     own + 7 * walk.windows(2).filter(jump).count() as u64
 }
 
@@ -27,6 +27,7 @@ pub fn nearest_cent(sixtieths: u64) -> u64 {
 
 pub fn charge(
     kind: Kind,
+    mark: Mark,
     rows: &[u64],
     walk: &[u8],
     minutes: &[u16],
@@ -42,7 +43,7 @@ pub fn charge(
             (20, &|| !begins_run(kind, &graph, walk)),
         ])
     };
-    match judge_refusal(kind, &plan, walk).or_else(refusal_after_judge) {
+    match judge_refusal(kind, mark, &plan, walk).or_else(refusal_after_judge) {
         Some(number) => Err(number),
         None => Ok(nearest_cent(minutes_of(&graph, walk, minutes) * rate)),
     }

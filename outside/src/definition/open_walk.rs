@@ -1,10 +1,11 @@
 //! The open walk of 01, by trying everything: a state that anyone may fill in, and its four calls.
 
-use super::{bytes, first_of, judge, offered, plan_refusal, Graph, Kind, Vertex};
+use super::{bytes, first_of, judge, offered, plan_refusal, Graph, Kind, Mark, Vertex};
 
 #[derive(Clone, PartialEq, Eq, Debug)]
 pub struct OpenWalk {
     pub kind: Kind,
+    pub mark: Mark,
     pub n: usize,
     pub rows: [u64; 64],
     pub k: usize,
@@ -15,16 +16,16 @@ pub struct OpenWalk {
 pub type Answer = u32;
 
 impl OpenWalk {
-    /// Of kind 0, with n = 0 and everything else 0.
+    /// Two-way, of kind 0, with n = 0 and everything else 0.
     fn nothing() -> OpenWalk {
-        OpenWalk { kind: 0, n: 0, rows: [0; 64], k: 0, places: [0; 64] }
+        OpenWalk { kind: 0, mark: Mark::TwoWay, n: 0, rows: [0; 64], k: 0, places: [0; 64] }
     }
 
-    pub fn open(kind: Kind, rows: &[u64]) -> (OpenWalk, Answer) {
-        if let Some(number) = plan_refusal(kind, &bytes(rows)) {
+    pub fn open(kind: Kind, mark: Mark, rows: &[u64]) -> (OpenWalk, Answer) {
+        if let Some(number) = plan_refusal(kind, mark, &bytes(rows)) {
             return (OpenWalk::nothing(), number);
         }
-        let mut walk = OpenWalk { kind, n: rows.len(), ..OpenWalk::nothing() };
+        let mut walk = OpenWalk { kind, mark, n: rows.len(), ..OpenWalk::nothing() };
         walk.rows[..rows.len()].copy_from_slice(rows);
         (walk, 0)
     }
@@ -35,12 +36,15 @@ impl OpenWalk {
             && self.k <= self.n
             && self.rows[self.n..].iter().all(|&row| row == 0)
             && self.places[self.k..].iter().all(|&v| v == 0)
-            && judge(self.kind, &bytes(&self.rows[..self.n]), &self.places[..self.k]) == 0
+            && judge(self.kind, self.mark, &self.plan(), &self.places[..self.k]) == 0
+    }
+
+    fn plan(&self) -> Vec<u8> {
+        bytes(&self.rows[..self.n])
     }
 
     fn next_points(&self) -> Vec<Vertex> {
-        let graph = Graph::from_plan(&bytes(&self.rows[..self.n]));
-        offered(self.kind, &graph, &self.places[..self.k])
+        offered(self.kind, &Graph::from_plan(&self.plan()), &self.places[..self.k])
     }
 
     pub fn offered(&self) -> (u64, Answer) {
@@ -78,3 +82,6 @@ impl OpenWalk {
         (next, 0)
     }
 }
+
+#[cfg(test)]
+mod tests;

@@ -2,8 +2,20 @@ use super::*;
 use crate::graphs;
 use crate::orderings;
 
+mod one_way;
+
 fn failed(triple: (Vertex, Vertex, Vertex)) -> u32 {
     failure_code(triple.0, triple.1, triple.2)
+}
+
+/// On a two-way plan, as in all of 01.
+fn judge(kind: Kind, plan: &[u8], walk: &[u8]) -> u32 {
+    super::judge(kind, Mark::TwoWay, plan, walk)
+}
+
+/// On a two-way plan, as in all of 01.
+fn carry_on(kind: Kind, plan: &[u8], tie_break: &[u8], output: &[u8], k: usize) -> (u32, Vec<u8>) {
+    super::carry_on(kind, Mark::TwoWay, plan, tie_break, output, k)
 }
 
 #[test]
@@ -66,7 +78,7 @@ fn first_triple_goes_by_b_then_a_then_c() {
 #[test]
 fn a_walk_begins_a_run_unless_it_has_a_triple() {
     for n in 0..=4 {
-        for plan in graphs::all_plans(n) {
+        for plan in graphs::all_plans(Mark::TwoWay, n) {
             let graph = Graph::from_plan(&plan);
             for ordering in orderings::all_partial(n) {
                 for kind in KINDS {
@@ -82,7 +94,7 @@ fn a_walk_begins_a_run_unless_it_has_a_triple() {
 
 #[test]
 fn a_full_walk_passes_exactly_if_its_reverse_brings_it_back() {
-    for plan in graphs::all_plans(4) {
+    for plan in graphs::all_plans(Mark::TwoWay, 4) {
         for ordering in orderings::permutations(4) {
             let reversed: Vec<u8> = ordering.iter().rev().copied().collect();
             for kind in KINDS {

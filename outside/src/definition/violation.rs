@@ -33,7 +33,7 @@ impl Places {
 }
 
 /// Where c may stand is said by 01 for six kinds and by 02 for MCS. The last condition is that no point excuses b; in
-/// MCS, that c has more neighbours before b than b has.
+/// MCS, that c has more neighbours before b than b has. In a one-way plan a or d "linked to" b or c is "leads to".
 fn is_violation(
     kind: Kind,
     graph: &Graph,
@@ -41,28 +41,29 @@ fn is_violation(
     (a, b, c): (Vertex, Vertex, Vertex),
 ) -> bool {
     let excuses = |d: Vertex| {
-        graph.linked(d, b)
+        graph.leads_to(d, b)
             && places.before(d, b)
             && match kind {
                 GENERIC => true,
                 BFS => places.before(d, a),
                 DFS => places.before(a, d),
-                LEX_BFS => places.before(d, a) && !graph.linked(d, c),
-                LEX_DFS => places.before(a, d) && !graph.linked(d, c),
-                MNS => !graph.linked(d, c),
+                LEX_BFS => places.before(d, a) && !graph.leads_to(d, c),
+                LEX_DFS => places.before(a, d) && !graph.leads_to(d, c),
+                MNS => !graph.leads_to(d, c),
                 _ => unreachable!("no such kind"),
             }
     };
-    let neighbours_before_b =
-        |v: Vertex| graph.vertices().filter(|&d| graph.linked(d, v) && places.before(d, b)).count();
+    let neighbours_before_b = |v: Vertex| {
+        graph.vertices().filter(|&d| graph.leads_to(d, v) && places.before(d, b)).count()
+    };
     let later = match kind {
         MCS => !places.before(c, b),
         _ => places.before(b, c) || !places.placed(c),
     };
     places.before(a, b)
         && later
-        && graph.linked(a, c)
-        && !graph.linked(a, b)
+        && graph.leads_to(a, c)
+        && !graph.leads_to(a, b)
         && match kind {
             MCS => neighbours_before_b(c) > neighbours_before_b(b),
             _ => !graph.vertices().any(excuses),

@@ -49,7 +49,7 @@ fn links(svg: &mut Svg, graph: &Graph, (a, b, c): Triple) {
     let at = |v: Vertex| POINTS[v].0;
     svg.line(at(a), at(b), MISSING_LINK);
     for u in 0..graph.size() {
-        for v in (0..u).filter(|&v| graph.linked(u, v)) {
+        for v in (0..u).filter(|&v| graph.leads_to(u, v)) {
             let of_triple = (u, v) == (a, c) || (u, v) == (c, a);
             svg.line(at(u), at(v), if of_triple { LINK_OF_TRIPLE } else { LINK });
         }

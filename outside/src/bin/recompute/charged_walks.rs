@@ -3,15 +3,18 @@
 use std::fmt::Write;
 
 use outside::definition::charge::charge;
-use outside::definition::KINDS;
+use outside::definition::{Kind, Mark, GENERIC, KINDS, MARKS, MCS};
 
 use crate::printed;
 
 const TREE: [u64; 4] = [6, 9, 1, 2];
 const RING: [u64; 4] = [10, 5, 10, 5];
 const PIECES: [u64; 5] = [6, 13, 3, 2, 0];
+const DOWN: [u64; 4] = [6, 8, 0, 0];
+const ROUND: [u64; 4] = [2, 4, 8, 1];
 const IN_TURN: [u8; 4] = [0, 1, 2, 3];
 const TURNED: [u8; 4] = [0, 1, 3, 2];
+const UPSTREAM: [u8; 4] = [3, 1, 0, 2];
 const RESTARTED: [u8; 5] = [4, 3, 1, 0, 2];
 const FAILING: [u8; 2] = [0, 2];
 const MINUTES: [u16; 4] = [10, 20, 5, 30];
@@ -39,82 +42,104 @@ struct Lines {
     calls: u64,
 }
 
+/// One plan of either mark.
+type Plan<'a> = (Mark, &'a [u64]);
+
 impl Lines {
-    fn charge(&mut self, kind: u8, rows: &[u64], walk: &[u8], minutes: &[u16], rate: u64) {
-        let (answer, cents) = match charge(kind, rows, walk, minutes, rate) {
+    fn charge(&mut self, kind: Kind, plan: Plan, walk: &[u8], minutes: &[u16], rate: u64) {
+        let (mark, rows) = plan;
+        let (answer, cents) = match charge(kind, mark, rows, walk, minutes, rate) {
             Ok(cents) => (0, cents),
             Err(number) => (number, 0),
         };
+        let mark = match mark {
+            Mark::TwoWay => 0,
+            Mark::OneWay => 1,
+        };
         let (n, k, m) = (rows.len(), walk.len(), minutes.len());
-        writeln!(self.text, "{kind} {n} {k} {m} {rate} {answer} {cents}")
+        writeln!(self.text, "{kind} {mark} {n} {k} {m} {rate} {answer} {cents}")
             .expect("a string takes any line");
         self.calls += 1;
     }
 
-    fn rated(&mut self, kind: u8, rows: &[u64], walk: &[u8], minutes: &[u16]) {
+    fn rated(&mut self, kind: Kind, plan: Plan, walk: &[u8], minutes: &[u16]) {
         for rate in RATES {
-            self.charge(kind, rows, walk, minutes, rate);
+            self.charge(kind, plan, walk, minutes, rate);
         }
     }
 
-    fn each_kind(&mut self, kind: u8) {
-        self.rated(kind, &TREE, &IN_TURN, &MINUTES);
-        self.rated(kind, &TREE, &TURNED, &MINUTES);
-        self.rated(kind, &RING, &IN_TURN, &MINUTES);
-        self.rated(kind, &RING, &TURNED, &MINUTES);
-        self.rated(kind, &RING, &TURNED[..3], &MINUTES);
-        self.rated(kind, &RING, &FAILING, &MINUTES);
-        self.rated(kind, &PIECES, &RESTARTED, &LONG);
-        self.rated(kind, &PIECES, &IN_TURN[..1], &LONG);
-        self.rated(kind, &PIECES, &[], &LONG);
+    fn both_ways(&mut self, kind: Kind, mark: Mark) {
+        for walk in [IN_TURN, TURNED, UPSTREAM] {
+            self.rated(kind, (mark, &TREE), &walk, &MINUTES);
+        }
+        for walk in [&IN_TURN[..], &TURNED, &TURNED[..3], &FAILING] {
+            self.rated(kind, (mark, &RING), walk, &MINUTES);
+        }
+        for walk in [&RESTARTED[..], &IN_TURN[..1], &[]] {
+            self.rated(kind, (mark, &PIECES), walk, &LONG);
+        }
     }
 
-    fn refused_walks(&mut self) {
+    fn one_way(&mut self, kind: Kind) {
+        for walk in [IN_TURN, TURNED, UPSTREAM] {
+            self.rated(kind, (Mark::OneWay, &DOWN), &walk, &MINUTES);
+        }
+        for walk in [IN_TURN, TURNED] {
+            self.rated(kind, (Mark::OneWay, &ROUND), &walk, &MINUTES);
+        }
+        self.rated(kind, (Mark::TwoWay, &DOWN), &UPSTREAM, &MINUTES);
+    }
+
+    fn refused_walks(&mut self, mark: Mark) {
         let few = [1000; 3];
-        self.charge(7, &[1; 65], &[99; 66], &few, 100_000);
-        self.charge(6, &[1; 65], &[99; 66], &few, 100_000);
+        self.charge(7, (mark, &[1; 65]), &[99; 66], &few, 100_000);
+        self.charge(6, (mark, &[1; 65]), &[99; 66], &few, 100_000);
         for first_row in [19, 3, 2] {
-            self.charge(6, &[first_row, 5, 10, 5], &[9; 5], &few, 100_000);
+            self.charge(6, (mark, &[first_row, 5, 10, 5]), &[9; 5], &few, 100_000);
         }
         for walk in [&[9; 5][..], &[9; 2], &[0, 1, 0]] {
-            self.charge(6, &RING, walk, &few, 100_000);
+            self.charge(6, (mark, &RING), walk, &few, 100_000);
         }
     }
 
-    fn refused_bills(&mut self) {
+    fn refused_bills(&mut self, mark: Mark) {
         let above = [10, 20, 5, 1000];
         let far_above = [65535, 20, 5, 30];
         for minutes in [&MINUTES[..3], &LONG, &above, &far_above] {
-            self.charge(6, &RING, &FAILING, minutes, 100_000);
+            self.charge(6, (mark, &RING), &FAILING, minutes, 100_000);
         }
         for rate in [100_000, u64::MAX, 99_999] {
-            self.charge(6, &RING, &FAILING, &MINUTES, rate);
+            self.charge(6, (mark, &RING), &FAILING, &MINUTES, rate);
         }
         for minutes in [above, MINUTES] {
-            self.charge(6, &RING, &FAILING[..1], &minutes, 99_999);
+            self.charge(6, (mark, &RING), &FAILING[..1], &minutes, 99_999);
         }
     }
 
-    fn largest(&mut self, kind: u8) {
+    fn largest(&mut self, kind: Kind, mark: Mark) {
         let all: Vec<u8> = (0..64).collect();
-        self.charge(kind, &[0; 64], &all, &[999; 64], 99_999);
+        self.charge(kind, (mark, &[0; 64]), &all, &[999; 64], 99_999);
     }
 }
 
 pub fn compare() -> u64 {
     let mut lines = Lines { text: String::new(), calls: 0 };
     for kind in KINDS {
-        lines.each_kind(kind);
+        lines.both_ways(kind, Mark::TwoWay);
+        lines.both_ways(kind, Mark::OneWay);
+        lines.one_way(kind);
     }
     for (minutes, rate) in SINGLE {
-        lines.charge(0, &[0], &[0], &[minutes], rate);
+        lines.charge(GENERIC, (Mark::TwoWay, &[0]), &[0], &[minutes], rate);
     }
-    lines.refused_walks();
-    lines.refused_bills();
+    MARKS.into_iter().for_each(|mark| lines.refused_walks(mark));
+    MARKS.into_iter().for_each(|mark| lines.refused_bills(mark));
     for kind in KINDS {
-        lines.largest(kind);
+        lines.largest(kind, Mark::TwoWay);
     }
-    lines.rated(0, &[], &[], &[]);
-    lines.rated(6, &[], &[], &[]);
+    lines.largest(MCS, Mark::OneWay);
+    for (kind, mark) in [(GENERIC, Mark::TwoWay), (MCS, Mark::TwoWay), (MCS, Mark::OneWay)] {
+        lines.rated(kind, (mark, &[]), &[], &[]);
+    }
     printed::compare("h, charged walks", "charged_walks", &lines.text, lines.calls)
 }

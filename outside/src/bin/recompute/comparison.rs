@@ -1,12 +1,12 @@
-//! One call made three ways: by the library, by the definitions, by the
-//! implementation on bit sets. The first difference ends the program.
+//! One call made three ways: by the library, by the definitions and, on a two-way
+//! plan, by the implementation on bit sets. The first difference ends the program.
 
 use std::collections::BTreeMap;
 use std::fmt::Display;
 use std::process::exit;
 
 use outside::calls::{CarryOnCall, JudgeCall};
-use outside::definition::{self, FAILED};
+use outside::definition::{self, Mark, FAILED};
 use outside::{bitset, entry};
 
 /// Counts the calls of one group, and the answers by their kind.
@@ -55,41 +55,49 @@ impl Comparison {
 
     /// The answer on which all three agree.
     pub fn judge(&mut self, call: &JudgeCall) -> u32 {
-        let defined = definition::judge(call.kind, &call.plan, &call.walk);
+        let JudgeCall { kind, mark, plan, walk } = call;
+        let defined = definition::judge(*kind, *mark, plan, walk);
         self.count(defined);
-        let answer = entry::guarded_judge(call.kind, &call.plan, &call.walk)
+        let answer = entry::guarded_judge(*kind, *mark, plan, walk)
             .unwrap_or_else(|altered| self.differ(call, &[altered]));
-        let on_bits = bitset::judge(call.kind, &call.plan, &call.walk);
-        if answer != defined || on_bits != defined {
-            let found = [
-                format!("the definitions give {}", show(defined)),
-                format!("the library gives    {}", show(answer)),
-                format!("the bit sets give    {}", show(on_bits)),
-            ];
-            self.differ(call, &found);
-        }
+        let on_bits = (*mark == Mark::TwoWay).then(|| bitset::judge(*kind, plan, walk));
+        self.agree(call, &defined, &answer, on_bits, |answer| show(*answer));
         defined
     }
 
     /// The answer and the output on which all three agree.
     pub fn carry_on(&mut self, call: &CarryOnCall) -> (u32, Vec<u8>) {
-        let CarryOnCall { kind, plan, tie_break, output, k } = call;
-        let defined = definition::carry_on(*kind, plan, tie_break, output, *k);
+        let CarryOnCall { kind, mark, plan, tie_break, output, k } = call;
+        let defined = definition::carry_on(*kind, *mark, plan, tie_break, output, *k);
         self.count(defined.0);
-        let answer = entry::guarded_carry_on(*kind, plan, tie_break, output, *k)
+        let answer = entry::guarded_carry_on(*kind, *mark, plan, tie_break, output, *k)
             .unwrap_or_else(|altered| self.differ(call, &[altered]));
-        let mut written = output.clone();
-        let on_bits = bitset::carry_on(*kind, plan, tie_break, &mut written, *k);
-        let on_bits = (on_bits, written);
-        if answer != defined || on_bits != defined {
-            let found = [
-                format!("the definitions give {}", show_output(&defined)),
-                format!("the library gives    {}", show_output(&answer)),
-                format!("the bit sets give    {}", show_output(&on_bits)),
-            ];
-            self.differ(call, &found);
-        }
+        let on_bits = (*mark == Mark::TwoWay).then(|| {
+            let mut written = output.clone();
+            (bitset::carry_on(*kind, plan, tie_break, &mut written, *k), written)
+        });
+        self.agree(call, &defined, &answer, on_bits, show_output);
         defined
+    }
+
+    /// Ends the program unless the answers are equal. The bit sets have none for a one-way plan.
+    fn agree<Answer: PartialEq>(
+        &self,
+        call: &dyn Display,
+        defined: &Answer,
+        answer: &Answer,
+        on_bits: Option<Answer>,
+        show: fn(&Answer) -> String,
+    ) {
+        if answer == defined && on_bits.as_ref().is_none_or(|on_bits| on_bits == defined) {
+            return;
+        }
+        let mut found = vec![
+            format!("the definitions give {}", show(defined)),
+            format!("the library gives    {}", show(answer)),
+        ];
+        found.extend(on_bits.map(|on_bits| format!("the bit sets give    {}", show(&on_bits))));
+        self.differ(call, &found);
     }
 
     /// Judges and compares with an answer that is known beforehand.

@@ -1,15 +1,17 @@
 //! Group a: the examples of 01, with its answers. What it says of "all", "the rest" or "the others" holds of MCS too.
+//! Then examples on one-way plans, worked out by hand.
 
 use outside::calls::{CarryOnCall, JudgeCall};
 use outside::definition::{
-    failure_code, Kind, BFS, DFS, GENERIC, KINDS, LEX_BFS, LEX_DFS, MCS, MNS,
+    failure_code, Kind, Mark, BFS, DFS, GENERIC, KINDS, LEX_BFS, LEX_DFS, MCS, MNS,
 };
-use outside::graphs::plan;
+use outside::graphs::{one_way_plan, plan};
 
 use crate::comparison::Comparison;
 
 struct Example {
     size: usize,
+    /// In a one-way plan, from the first point to the second.
     links: &'static [(usize, usize)],
     walk: &'static [u8],
     /// These fail with the triple, the others pass.
@@ -44,24 +46,95 @@ const EXAMPLES: [Example; 9] = [
     Example { size: 3, links: &[(0, 1)], walk: &[2, 0, 1], failing: &[], triple: (0, 0, 0) },
 ];
 
+/// P, each link from its smaller point to the larger one.
+const DOWN: &[(usize, usize)] = P;
+/// C, each link in one direction: round and round.
+const ROUND: &[(usize, usize)] = &[(0, 1), (1, 2), (2, 3), (3, 0)];
+
+const ONE_WAY: [Example; 9] = [
+    Example {
+        size: 4,
+        links: DOWN,
+        walk: &[0, 1, 2, 3],
+        failing: &[DFS, LEX_DFS],
+        triple: (1, 2, 3),
+    },
+    // 2 leads nowhere, so that any point may be next.
+    Example { size: 4, links: DOWN, walk: &[2, 1], failing: &[], triple: (0, 0, 0) },
+    Example { size: 4, links: DOWN, walk: &[2, 1, 0], failing: &KINDS, triple: (1, 0, 3) },
+    Example { size: 4, links: ROUND, walk: &[2, 3, 0, 1], failing: &[], triple: (0, 0, 0) },
+    Example { size: 4, links: ROUND, walk: &[2, 1], failing: &KINDS, triple: (2, 1, 3) },
+    Example {
+        size: 3,
+        links: &[(0, 1), (2, 1)],
+        walk: &[0, 2],
+        failing: &KINDS,
+        triple: (0, 2, 1),
+    },
+    // 0 would excuse 2 if it led to it.
+    Example {
+        size: 4,
+        links: &[(0, 1), (2, 0), (1, 3)],
+        walk: &[0, 1, 2, 3],
+        failing: &KINDS,
+        triple: (1, 2, 3),
+    },
+    // 0 excuses 2 in all kinds but DFS and LexDFS: that 3 leads to 0 does not matter.
+    Example {
+        size: 4,
+        links: &[(0, 1), (0, 2), (3, 0), (1, 3)],
+        walk: &[0, 1, 2, 3],
+        failing: &[DFS, LEX_DFS],
+        triple: (1, 2, 3),
+    },
+    // For MCS: before 2 is placed, one point leads to 2 and two lead to 3; 2 leads to two points and 3 to none.
+    Example {
+        size: 4,
+        links: &[(0, 1), (0, 2), (0, 3), (1, 3), (2, 0), (2, 1)],
+        walk: &[0, 1, 2, 3],
+        failing: &[DFS, LEX_BFS, LEX_DFS, MNS, MCS],
+        triple: (1, 2, 3),
+    },
+];
+
 pub fn compare() -> u64 {
     let mut comparison = Comparison::new("a, examples of 01");
     for example in &EXAMPLES {
-        for kind in KINDS {
-            let (a, b, c) = example.triple;
-            let fails = example.failing.contains(&kind);
-            let call = JudgeCall {
-                kind,
-                plan: plan(example.size, example.links),
-                walk: example.walk.to_vec(),
-            };
-            comparison.expect_judge(&call, if fails { failure_code(a, b, c) } else { 0 });
-        }
+        judge(&mut comparison, Mark::TwoWay, plan(example.size, example.links), example);
     }
     preferences(&mut comparison);
     sizes(&mut comparison);
     full_starts(&mut comparison);
-    comparison.finish()
+    let mut one_way = Comparison::new("a, examples on one-way plans");
+    for example in &ONE_WAY {
+        judge(&mut one_way, Mark::OneWay, one_way_plan(example.size, example.links), example);
+    }
+    round(&mut one_way);
+    comparison.finish() + one_way.finish()
+}
+
+fn judge(comparison: &mut Comparison, mark: Mark, plan: Vec<u8>, example: &Example) {
+    let (a, b, c) = example.triple;
+    for kind in KINDS {
+        let fails = example.failing.contains(&kind);
+        let call = JudgeCall { kind, mark, plan: plan.clone(), walk: example.walk.to_vec() };
+        comparison.expect_judge(&call, if fails { failure_code(a, b, c) } else { 0 });
+    }
+}
+
+/// Once a point is placed, only the one that it leads to may be next.
+fn round(comparison: &mut Comparison) {
+    for kind in KINDS {
+        let call = CarryOnCall {
+            kind,
+            mark: Mark::OneWay,
+            plan: one_way_plan(4, ROUND),
+            tie_break: vec![0, 1, 2, 3],
+            output: vec![77; 4],
+            k: 0,
+        };
+        comparison.expect_carry_on(&call, (0, vec![3, 0, 1, 2]));
+    }
 }
 
 /// C with the preference list 3 2 1 0 and k = 0.
@@ -69,6 +142,7 @@ fn preferences(comparison: &mut Comparison) {
     for (kind, written) in [(BFS, [0, 1, 3, 2]), (DFS, [0, 1, 2, 3])] {
         let call = CarryOnCall {
             kind,
+            mark: Mark::TwoWay,
             plan: plan(4, C),
             tie_break: vec![3, 2, 1, 0],
             output: vec![77; 4],
@@ -82,16 +156,17 @@ fn preferences(comparison: &mut Comparison) {
 fn sizes(comparison: &mut Comparison) {
     let chain: Vec<(usize, usize)> = (1..64).map(|v| (v - 1, v)).collect();
     let straight: Vec<u8> = (0..64).collect();
+    let mark = Mark::TwoWay;
     for kind in KINDS {
-        let empty = JudgeCall { kind, plan: Vec::new(), walk: Vec::new() };
+        let empty = JudgeCall { kind, mark, plan: Vec::new(), walk: Vec::new() };
         comparison.expect_judge(&empty, 0);
-        let full = JudgeCall { kind, plan: plan(64, &chain), walk: straight.clone() };
+        let full = JudgeCall { kind, mark, plan: plan(64, &chain), walk: straight.clone() };
         comparison.expect_judge(&full, 0);
         let mut jump = straight[..62].to_vec();
         jump.push(63);
         let jump = JudgeCall { walk: jump, ..full };
         comparison.expect_judge(&jump, failure_code(61, 63, 62));
-        let too_large = JudgeCall { kind, plan: vec![0; 8 * 65], walk: Vec::new() };
+        let too_large = JudgeCall { kind, mark, plan: vec![0; 8 * 65], walk: Vec::new() };
         comparison.expect_judge(&too_large, 2);
     }
 }
@@ -107,19 +182,21 @@ fn full_starts(comparison: &mut Comparison) {
         (MNS, [0, 1, 2, 3]),
         (MCS, [0, 1, 2, 3]),
     ];
+    let mark = Mark::TwoWay;
     for (kind, start) in starts {
         for beyond in [0, 3] {
             let mut output = start.to_vec();
             output.resize(4 + beyond, 77);
             let unchanged = output.clone();
-            let call =
-                CarryOnCall { kind, plan: plan(4, C), tie_break: vec![3, 2, 1, 0], output, k: 4 };
+            let (plan, tie_break) = (plan(4, C), vec![3, 2, 1, 0]);
+            let call = CarryOnCall { kind, mark, plan, tie_break, output, k: 4 };
             comparison.expect_carry_on(&call, (0, unchanged));
         }
     }
     let none = Vec::new;
     for kind in KINDS {
-        let call = CarryOnCall { kind, plan: none(), tie_break: none(), output: none(), k: 0 };
+        let call =
+            CarryOnCall { kind, mark, plan: none(), tie_break: none(), output: none(), k: 0 };
         comparison.expect_carry_on(&call, (0, none()));
     }
 }

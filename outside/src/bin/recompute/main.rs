@@ -1,18 +1,20 @@
 //! Recomputes the library's answers from 01 and 02, and stops at the first that differs.
 //!
-//!   a   the examples of 01
+//!   a   the examples of 01, and some on one-way plans
 //!   b   the orderings that document 001 names
-//!   c   all small plans
-//!   d   random plans, walks and damaged inputs from a fixed seed
+//!   c   all small plans, two-way and one-way
+//!   d   random plans of either mark, walks and damaged inputs from a fixed seed
 //!   e   the open walks that a program of the library plays
 //!   f   the sheets that a program of the library judges
 //!   g   which passes carry over from one kind to another
 //!   h   the walks that a program of the library charges
+//!   i   the same calls under either mark of a plan
 
 mod carry_over;
 mod charged_walks;
 mod comparison;
 mod document;
+mod either_mark;
 mod examples;
 mod open_walks;
 mod printed;
@@ -28,6 +30,7 @@ fn main() {
         + open_walks::compare()
         + sheets::compare()
         + carry_over::compare()
-        + charged_walks::compare();
+        + charged_walks::compare()
+        + either_mark::compare();
     println!("all {calls} calls agree");
 }

@@ -1,35 +1,51 @@
-//! Group d: random calls from a fixed seed, sound and damaged.
+//! Group d: random calls from a fixed seed, sound and damaged, on two-way and on one-way plans.
 
 use outside::calls::{
     damage_carry_on, damage_judge, random_carry_on, random_judge, CarryOnCall, JudgeCall,
 };
-use outside::definition::FAILED;
+use outside::definition::{Mark, FAILED};
 use outside::random::Random;
 
 use crate::comparison::Comparison;
 
-/// Rounds of five calls each.
+/// Rounds of five calls each, for either mark.
 const ROUNDS: usize = 30_000;
 
 /// Each answer must come this often, or the calls try too little.
 const ENOUGH: u64 = 200;
 
 pub fn compare() -> u64 {
-    let mut random = Random::new(20_230_917);
-    let mut judged = Comparison::new("d, random walks judged");
-    let mut carried = Comparison::new("d, random walks carried on");
+    let two_way = ["d, random walks judged", "d, random walks carried on"];
+    let (calls, judged, carried) = compare_marked(Mark::TwoWay, 20_230_917, two_way);
+    judged.coverage("judge", &[0, 1, 2, 3, 4, 5, 6, 8, 9, FAILED], ENOUGH);
+    carried.coverage("carry-on", &[0, 1, 2, 3, 4, 5, 6, 7, 8, 9, 10, 12], ENOUGH);
+    let one_way = [
+        "d, random walks over one-way plans judged",
+        "d, random walks over one-way plans carried on",
+    ];
+    let (one_way_calls, judged, carried) = compare_marked(Mark::OneWay, 20_230_921, one_way);
+    judged.coverage("judge", &[0, 1, 2, 3, 4, 6, 8, 9, FAILED], ENOUGH);
+    carried.coverage("carry-on", &[0, 1, 2, 3, 4, 6, 7, 8, 9, 10, 12], ENOUGH);
+    calls + one_way_calls
+}
+
+/// The number of calls, and what judge and carry-on answered.
+fn compare_marked(
+    mark: Mark,
+    seed: u64,
+    groups: [&'static str; 2],
+) -> (u64, Comparison, Comparison) {
+    let mut random = Random::new(seed);
+    let [mut judged, mut carried] = groups.map(Comparison::new);
     for _ in 0..ROUNDS {
-        let call = random_judge(&mut random);
+        let call = random_judge(&mut random, mark);
         judged.judge(&call);
         judge_damaged(&mut random, &mut judged, call);
-        let call = random_carry_on(&mut random);
+        let call = random_carry_on(&mut random, mark);
         carry_on_and_judge(&mut judged, &mut carried, &call);
         carry_on_damaged(&mut random, &mut carried, call);
     }
-    let calls = judged.finish() + carried.finish();
-    judged.coverage("judge", &[0, 1, 2, 3, 4, 5, 6, 8, 9, FAILED], ENOUGH);
-    carried.coverage("carry-on", &[0, 1, 2, 3, 4, 5, 6, 7, 8, 9, 10, 12], ENOUGH);
-    calls
+    (judged.finish() + carried.finish(), judged, carried)
 }
 
 fn judge_damaged(random: &mut Random, judged: &mut Comparison, mut call: JudgeCall) {
@@ -47,7 +63,7 @@ fn carry_on_and_judge(judged: &mut Comparison, carried: &mut Comparison, call: &
     let (answer, output) = carried.carry_on(call);
     if answer == 0 {
         let walk = output[..call.plan.len() / 8].to_vec();
-        let reached = JudgeCall { kind: call.kind, plan: call.plan.clone(), walk };
-        judged.expect_judge(&reached, 0);
+        let CarryOnCall { kind, mark, plan, .. } = call.clone();
+        judged.expect_judge(&JudgeCall { kind, mark, plan, walk }, 0);
     }
 }

@@ -1,8 +1,14 @@
 use super::*;
 use crate::definition::{DFS, GENERIC};
 
-// The links 0-1, 0-2, 1-3.
+// The links 0-1, 0-2, 1-3; then each from the smaller point to the larger one only.
 const TREE: [u64; 4] = [6, 9, 1, 2];
+const DOWN: [u64; 4] = [6, 8, 0, 0];
+
+/// On a two-way plan.
+fn charge(kind: Kind, rows: &[u64], walk: &[u8], minutes: &[u16], rate: u64) -> Result<u64, u32> {
+    super::charge(kind, Mark::TwoWay, rows, walk, minutes, rate)
+}
 
 fn single(minutes: u16, rate: u64) -> Result<u64, u32> {
     charge(GENERIC, &[0], &[0], &[minutes], rate)
@@ -18,6 +24,21 @@ fn jumps_take_seven_minutes_except_to_the_first_point() {
     assert_eq!(minutes_of(&graph, &[3, 2], &minutes), 42);
     assert_eq!(minutes_of(&graph, &[0, 1, 2, 3], &minutes), 65 + 2 * 7);
     assert_eq!(minutes_of(&graph, &[0, 1, 3, 2], &minutes), 65 + 7);
+}
+
+#[test]
+fn a_step_against_a_one_way_link_is_a_jump() {
+    let graph = Graph::from_plan(&bytes(&DOWN));
+    let minutes = [10, 20, 5, 30];
+    assert_eq!(minutes_of(&graph, &[1, 3], &minutes), 50);
+    assert_eq!(minutes_of(&graph, &[3, 1], &minutes), 50 + 7);
+    assert_eq!(minutes_of(&graph, &[0, 1, 2, 3], &minutes), 65 + 2 * 7);
+    assert_eq!(minutes_of(&graph, &[0, 1, 3, 2], &minutes), 65 + 7);
+    assert_eq!(minutes_of(&graph, &[3, 1, 0, 2], &minutes), 65 + 2 * 7);
+    assert_eq!(minutes_of(&Graph::from_plan(&bytes(&TREE)), &[3, 1, 0, 2], &minutes), 65);
+    let at_4530 = |mark| super::charge(GENERIC, mark, &DOWN, &[3, 1, 0, 2], &minutes, 4_530);
+    assert_eq!(at_4530(Mark::OneWay), Ok(5_965));
+    assert_eq!(at_4530(Mark::TwoWay), Err(5));
 }
 
 #[test]

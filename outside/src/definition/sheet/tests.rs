@@ -39,7 +39,7 @@ fn the_examples_have_the_judgements_beside_them() {
 #[test]
 fn every_written_sheet_is_read_back() {
     for n in 0..=4 {
-        for plan in graphs::all_plans(n) {
+        for plan in graphs::all_plans(Mark::TwoWay, n) {
             let rows: Vec<u64> = plan
                 .chunks_exact(8)
                 .map(|row| u64::from_le_bytes(row.try_into().expect("eight bytes")))
