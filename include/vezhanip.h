@@ -5,9 +5,14 @@
  * Lists
  *
  * Plan:             8 * n bytes for n points, n from 0 to 64: one row for each
- *                   point, eight bytes a row, lowest byte first. Bit v of row u
- *                   (value 2^v) is set when u and v are linked. Every link is
- *                   in both of its rows, no point is linked to itself.
+ *                   point, eight bytes a row, lowest byte first. A plan is
+ *                   two-way or one-way. The functions for one-way plans have
+ *                   names that end in _one_way.
+ *                   Two-way: bit v of row u (value 2^v) is set when u and v are
+ *                   linked. Every link is in both of its rows.
+ *                   One-way: bit v of row u is set when u leads to v. Whether v
+ *                   leads to u is in row v.
+ *                   No point is linked to itself or leads to itself.
  * Walk:             up to n distinct points in the order in which they were
  *                   placed, one byte each, each below n.
  * Preference list:  all n points, each once, one byte each.
@@ -39,10 +44,10 @@
 
 /*
  * The version of this interface. Additions raise the minor number; 1.1.0 adds
- * MCS, kind 6.
+ * MCS, kind 6; 1.2.0 adds one-way plans.
  */
 #define VEZHANIP_VERSION_MAJOR 1
-#define VEZHANIP_VERSION_MINOR 1
+#define VEZHANIP_VERSION_MINOR 2
 #define VEZHANIP_VERSION_PATCH 0
 #define VEZHANIP_VERSION                                         \
     (VEZHANIP_VERSION_MAJOR * 10000 + VEZHANIP_VERSION_MINOR * 100 \
@@ -72,7 +77,7 @@ extern "C" {
 #define VEZHANIP_BAD_PLAN_SIZE      2u  /* more than 64 rows, or bytes not a multiple of eight */
 #define VEZHANIP_LINK_OUTSIDE       3u  /* a bit at or above n in some row */
 #define VEZHANIP_SELF_LINK          4u  /* a point linked to itself */
-#define VEZHANIP_ONE_WAY_LINK       5u  /* a link in one row and not in the other */
+#define VEZHANIP_ONE_WAY_LINK       5u  /* two-way plans only: a link in one row and not in the other */
 #define VEZHANIP_WALK_TOO_LONG      6u  /* walk longer than n, or k above n */
 #define VEZHANIP_BAD_PREFERENCE     7u  /* preference list's length is not n */
 #define VEZHANIP_POINT_OUTSIDE      8u  /* a point that is n or more */
@@ -94,6 +99,10 @@ extern "C" {
  *   LexDFS   it is placed after a and not linked to c
  *   MNS      it is not linked to c
  *
+ * In a one-way plan "linked to" means "leads to" here: a leads to c and not to
+ * b, and an excuse d leads to b and, where the table says so, not to c. The
+ * neighbours of a point are the points that lead to it.
+ *
  * The first triple has the earliest placed b, then the earliest placed a, then
  * the first c: placed points come first, in the order of the walk, then the
  * unplaced ones, by number. So c may be a point that is not in the walk.
@@ -105,17 +114,27 @@ extern "C" {
 #define VEZHANIP_FAULT_C(code)    ((uint8_t)((code) & 255u))
 
 /*
- * Judges a walk. Returns VEZHANIP_OK, a failure, or the first refusal that
- * applies, in the order 1, 2, 3, 4, 5, 6, 8, 9. Reads both lists, writes none.
+ * Judges a walk over a two-way plan. Returns VEZHANIP_OK, a failure, or the
+ * first refusal that applies, in the order 1, 2, 3, 4, 5, 6, 8, 9. Reads both
+ * lists, writes none.
  */
 uint32_t vezhanip_judge(uint8_t kind,
                         const uint8_t *plan, size_t plan_len,
                         const uint8_t *walk, size_t walk_len);
 
 /*
- * Carries a walk on until all n points are placed. The first k bytes of the
- * output are the walk so far. At each step, of the points that the search
- * offers, the one that comes last in the preference list is placed.
+ * Judges a walk over a one-way plan: as vezhanip_judge, but without refusal 5.
+ * A plan whose links all go both ways gets the same answer from both.
+ */
+uint32_t vezhanip_judge_one_way(uint8_t kind,
+                                const uint8_t *plan, size_t plan_len,
+                                const uint8_t *walk, size_t walk_len);
+
+/*
+ * Carries a walk on over a two-way plan until all n points are placed. The
+ * first k bytes of the output are the walk so far. At each step, of the points
+ * that the search offers, the one that comes last in the preference list is
+ * placed.
  *
  * Returns VEZHANIP_OK, or the first refusal that applies, in the order 1, 2, 3,
  * 4, 5, 6, 10, 7, 8, 9, 12. Reads the plan, the preference list and output[0]
@@ -127,6 +146,18 @@ uint32_t vezhanip_carry_on(uint8_t kind,
                            const uint8_t *preference, size_t preference_len,
                            uint8_t *output, size_t output_len,
                            size_t k);
+
+/*
+ * Carries a walk on over a one-way plan: as vezhanip_carry_on, but without
+ * refusal 5. A plan whose links all go both ways gets the same answer and the
+ * same output from both.
+ */
+uint32_t vezhanip_carry_on_one_way(uint8_t kind,
+                                   const uint8_t *plan, size_t plan_len,
+                                   const uint8_t *preference,
+                                   size_t preference_len,
+                                   uint8_t *output, size_t output_len,
+                                   size_t k);
 
 #ifdef __cplusplus
 }
