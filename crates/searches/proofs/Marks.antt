@@ -5,21 +5,19 @@
 --   either-open, either-judge, either-carryOn   where every link goes both ways, both marks get the same answers
 -- Assumes nothing.
 use mathlib.Core.Path.{_≡_, refl, sym, ap, _∙_, subst}
-use mathlib.Core.Logic.{_⊎_, inl, inr, ⊎-elim, _↔_}
+use mathlib.Core.Logic.{⊎-elim, _↔_}
 use mathlib.Core.Bool.{Bool, true, false, not, _&&_}
-use mathlib.Core.List.{List, [], _∷_, _++_}
+use mathlib.Core.List.{List, [], _∷_}
 use mathlib.Core.Option.{some}
 use Prim.Native.Nat.{ℕ, _≤_}
-use native.Mathlib.Omega.{arith}
 use lib.Dec.{T, eqb, eqb-refl, T-not}
 use lib.ListN.{length, take}
 use Rattle.bitset.proofs.Tests.{and-in, and-out, is-false}
 use Rattle.searches.specs.Kind.{searchOf}
 use Rattle.searches.specs.Ordering.{arcs, IsOrdering}
 use Rattle.searches.specs.Run.{BeginsRun}
-use Rattle.searches.specs.Violation.{Verdict, Violates, passes, refused, judge}
-use Rattle.searches.specs.CarryOn.{carryOn}
-use Rattle.searches.specs.Answer.{oneWay, isTwoWay, BothWays, isPass, openTests, judgeTests, listTests, carryOnTests, firstRefusal, Accepts, Refuses}
+use Rattle.searches.specs.Violation.{Violates, passes, refused}
+use Rattle.searches.specs.Answer.{oneWay, isTwoWay, BothWays, openTests, judgeTests, listTests, carryOnTests, firstRefusal, Accepts, Refuses}
 use Rattle.searches.specs.Answer.{judgeAnswer, openAnswer, carryOnAnswer, carryOnOutput}
 use Rattle.searches.specs.declared.Mark.{Mark}
 use Rattle.searches.proofs.Refusals.{oneWay-out}

@@ -1,9 +1,9 @@
 -- `steps::columns::columns_of` meets its contract: the rows are copied, or transposed, as the mark says.
 -- Assumes nothing.
 use Prim.Native.Nat.{ℕ}
-use mathlib.Core.Path.{_≡_, sym, ap, _∙_}
+use mathlib.Core.Path.{sym, ap, _∙_}
 use mathlib.Core.List.{List, _++_}
-use lib.ListN.{length, drop, replicate}
+use lib.ListN.{length, drop}
 use Rattle.searches.specs.declared.Mark.{Mark}
 use Rattle.steps.specs.Columns.{columnsOf}
 use Rattle.steps.proofs.Copying.{behind-zeros}
