@@ -27,6 +27,7 @@ pub fn judge(kind: Kind, mark: Mark, rows: &[u64], ordering: &[u8]) -> Judgement
     if let Outcome::Refused(refusal) = checked {
         return Judgement::Refused(refusal);
     }
+    // the rows of a two-way graph are their own transpose
     if let Mark::TwoWay = mark {
         return verdict(kind, rows, rows, ordering);
     }
@@ -97,6 +98,7 @@ pub fn carry_on(
     if let Outcome::Refused(refusal) = checked {
         return Outcome::Refused(refusal);
     }
+    // the rows of a two-way graph are their own transpose
     if let Mark::TwoWay = mark {
         return extend(kind, rows, rows, tie_break, output, k);
     }
