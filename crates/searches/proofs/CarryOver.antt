@@ -7,7 +7,7 @@
 --   not-bfs, .. lexDfs-not-mcs   six plans, each with a walk
 --   otherPairs                   a row for each of the 31 pairs that the table does not have: the two searches and one of the six
 --   rows-right                   in each row the walk passes the first search and fails the second
---   ToldApart s s′               a walk that passes s and fails s′, and its plan;   row-tells   there is one where the pair has a row
+--   ToldApart mark s s′          a walk that passes s and fails s′, and its plan of this mark;   row-tells   there is one where the pair has a row
 --   none-missing, every-pair     every pair is in the table, or has a row
 --   does-not-carry-over-answers, does-not-carry-over   so a pass need not carry over where the table has no pair
 -- Assumes nothing.
@@ -280,8 +280,8 @@ every-pair s s′ =
     (kindOf s′) (kind-below s′)))
 
 module _ (s s′ : Search) (other : T (carries s s′) → ⊥) where
-  -- 02: K1, which passes carry over: no others do. Where the table has no pair, judge passes some walk of some valid plan for s and fails it for s′,
-  -- whatever the mark,
+  -- 02: K1, which passes carry over: no others do. Where the table has no pair, judge passes some walk of some valid plan, of either mark, for s and
+  -- fails it for s′,
   pub does-not-carry-over-answers : (mark : Mark) → ToldApart mark s s′
   unfolding accountedFor
   does-not-carry-over-answers mark = ⊎-elim (λ t. absurd (other t)) (row-tells s s′ mark otherPairs (rows-right mark)) (or-out (carries s s′) (hasRow s s′ otherPairs) (every-pair s s′))

@@ -1,5 +1,5 @@
 -- The links of a graph, each by its number, and the links that a sheet lists.
---   Graph rows                 what a valid graph's rows are: at most 64, within, no loops, both ways;   valid-graph
+--   Graph rows                 what a valid two-way graph's rows are: at most 64, within, no loops, both ways;   valid-graph
 --   below-out                  the greater of two pairs has the greater first point, or the same and the greater second
 --   before-in, before-out      pairs in ascending order are numbers in ascending order
 --   parts                      the two points of a number

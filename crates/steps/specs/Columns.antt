@@ -1,7 +1,7 @@
 -- The columns of a graph: its rows, transposed. Column v holds the vertices that lead to v.
 --   enteredIn row u n columns  the columns, with u put into those of the vertices below n that are in row
 --   columnsBelow rows i        the columns as 64 words, with the first i vertices in them
---   transposed rows            the columns with all vertices in them                        [02, K4: the row of those that lead to a point]
+--   transposed rows            the columns with all vertices in them                        [02, K4: the points that lead to a point]
 --   columnsOf mark rows        what MCS counts in, as 64 words: a two-way graph's own rows, a one-way graph's columns
 --   Transposed rows columns    there are as many columns as rows, and column v holds exactly the vertices that lead to v
 use Prim.Native.Nat.{ℕ, zero, suc, _-_, _<_}
