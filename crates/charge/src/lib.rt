@@ -24,8 +24,8 @@ pub enum Charged {
 
 // The charge, in cents, for an ordering that passes the search `kind`. The minutes of its vertices are those in `minutes`, entry v for vertex v, and
 // 7 more for each vertex after the first to which the one placed directly before it does not lead. Minutes times `rate`, in cents an hour, divided by
-// 60, is rounded to the nearest cent, halves up. Everything else is refused (1 to 6, 8, 9, 18, 19, 20; 5 for two-way graphs
-// only). Alters nothing.
+// 60, is rounded to the nearest cent, halves up. Everything else is refused (1 to 6, 8, 9, 18, 19, 20; 5 for two-way graphs only).
+// Alters nothing.
 pub fn charge(
     kind: Kind,
     mark: Mark,

@@ -1,5 +1,5 @@
 -- The two public calls, from what their parts answer.
---   valid-both-ways, valid-own-transpose, valid-turns   every link of a valid two-way graph goes both ways; what is counted in are the columns
+--   valid-both-ways, valid-own-transpose, valid-columns   every link of a valid two-way graph goes both ways; what is counted in are the columns
 --   replayable                        an ordering can be replayed on empty labels and without running values
 --   fault-there, fault-judged         where the replay stops there is a violation, and the first one is judge's verdict
 --   stopped-fails, ended-passes, along-ended, whole-filled, filled-carried   what extend answers and leaves
@@ -32,7 +32,7 @@ use Rattle.searches.proofs.Answers as answers
 use Rattle.checks.proofs.Tried.{tried-first, refused-before}
 use Rattle.steps.specs.Columns.{columnsOf, Transposed}
 use Rattle.steps.specs.Steps.{labelsAfter, smallestAfter, largestAfter, placedAfter, freeAfter, stopsAt, lastIn, firstIn, firstFault, fillIn, Replayable, Searchable, Along}
-use Rattle.steps.proofs.Turning.{own-transpose, columns-turn}
+use Rattle.steps.proofs.Transposition.{own-transpose, counted-columns}
 use Rattle.steps.proofs.Tracking.{consistent-after}
 use Rattle.steps.proofs.Growing.{along-start}
 use Rattle.engine.specs.declared.after.Moment.{Moment}
@@ -58,8 +58,8 @@ module _ (kind : ℕ) (mark : Mark) (rows : List ℕ) (valid : Accepts (openTest
   valid-own-transpose e = own-transpose rows (valid-both-ways (subst (λ (m : Mark). T (isTwoWay m)) (sym e) tt))
 
   -- and what is counted in are the columns, whatever the mark
-  pub valid-turns : Transposed rows (take (length rows) (columnsOf mark rows))
-  valid-turns = columns-turn rows (answers.valid-small kind mark rows valid) mark valid-both-ways
+  pub valid-columns : Transposed rows (take (length rows) (columnsOf mark rows))
+  valid-columns = counted-columns rows (answers.valid-small kind mark rows valid) mark valid-both-ways
 
 module _ (rows : List ℕ) {columns : List ℕ} (w : List ℕ) (k : ℕ) (x : Judgeable rows columns w k) where
   pub replayable : Replayable rows columns w k (replicate 64 0) (replicate 64 64) (replicate 64 0)
@@ -69,7 +69,7 @@ module _ (rows : List ℕ) {columns : List ℕ} (w : List ℕ) (k : ℕ) (x : Ju
     small = x .small;
     vertices = x .ordering .vertices;
     distinct = x .ordering .distinct;
-    turned = x .turned;
+    transpose = x .transpose;
     empty = refl;
     no-smallest = refl;
     no-largest = refl;
@@ -86,7 +86,7 @@ module _ (rows : List ℕ) {columns : List ℕ} (w : List ℕ) (k : ℕ) (x : Ju
           small = x .small;
           vertices = x .ordering .vertices;
           unplaced = at-free;
-          consistent = consistent-after rows w k (x .small) (x .ordering) (x .turned) j (omega arith) at-labels at-smallest at-largest at-placed;
+          consistent = consistent-after rows w k (x .small) (x .ordering) (x .transpose) j (omega arith) at-labels at-smallest at-largest at-placed;
         }
 
         pub fault-there : Searchable rows columns w k labels smallest largest placed free j × T (anyBelow j (firstIn s rows w labels free j k))
@@ -179,10 +179,10 @@ module _ (kind : ℕ) (mark : Mark) (rows w : List ℕ) where
 
   pub judge-asked-accepted : none ≡ firstRefusal (judgeTests kind mark rows w) → {columns : List ℕ} → Transposed rows columns
       → Judgeable rows columns w (length w) × (judge (searchOf kind) (arcs rows) (length rows) w (length w) ≡ judgeAnswer kind mark rows w)
-  judge-asked-accepted e across =
+  judge-asked-accepted e transpose =
       let a = none-accepts (judgeTests kind mark rows w) (sym e) in
       let x = answers.accepted-ordering kind mark rows w a in
-      (record { small = answers.valid-small kind mark rows (x .0); turned = across; ordering = x .1 }, sym (answers.judge-accepted kind mark rows w a))
+      (record { small = answers.valid-small kind mark rows (x .0); transpose = transpose; ordering = x .1 }, sym (answers.judge-accepted kind mark rows w a))
 
   -- ---- what `after` hands back
 
@@ -198,7 +198,7 @@ module _ (kind : ℕ) (mark : Mark) (rows w : List ℕ) where
   module _ (accepted : none ≡ firstRefusal (judgeTests kind mark rows w)) (count : ℕ) (stops : count ≡ firstBelow (length w) (stopsAt (searchOf kind) rows w)) where
     asked : Judgeable rows (take (length rows) (columnsOf mark rows)) w (length w)
         × (judge (searchOf kind) (arcs rows) (length rows) w (length w) ≡ judgeAnswer kind mark rows w)
-    asked = judge-asked-accepted accepted (valid-turns kind mark rows (judge-asked-valid accepted))
+    asked = judge-asked-accepted accepted (valid-columns kind mark rows (judge-asked-valid accepted))
 
     pub moment-stopped : {r : Moment} → r ≡ noMoment → count < length w → r ≡ momentAfter kind mark rows w
     moment-stopped is l =
@@ -241,9 +241,9 @@ module _ (kind : ℕ) (mark : Mark) (rows t out : List ℕ) (k : ℕ) where
 
   pub carryOn-asked-accepted : none ≡ firstRefusal (listTests kind mark rows t out k) → {columns : List ℕ} → Transposed rows columns
       → Extendable rows columns t out k
-  carryOn-asked-accepted e across =
+  carryOn-asked-accepted e transpose =
       let x = answers.accepted-lists kind mark rows t out k (none-accepts (listTests kind mark rows t out k) (sym e)) in
-      record { start = record { small = answers.valid-small kind mark rows (x .valid); turned = across; ordering = x .start }; room = x .room; names = x .tie-break }
+      record { start = record { small = answers.valid-small kind mark rows (x .valid); transpose = transpose; ordering = x .start }; room = x .room; names = x .tie-break }
 
   -- the last test is on the start
   pub carryOn-asked-last : none ≡ firstRefusal (listTests kind mark rows t out k)

@@ -9,7 +9,7 @@ use Rattle.steps.specs.Columns.{Transposed}
 
 pub record Judgeable (rows columns w : List ℕ) (k : ℕ) : Type 0 where
   pub small : length rows ≤ 64
-  pub turned : Transposed rows columns
+  pub transpose : Transposed rows columns
   pub ordering : IsOrdering (length rows) w k
 
 pub record Extendable (rows columns t out : List ℕ) (k : ℕ) : Type 0 where

@@ -3,6 +3,7 @@
 --   broken-off                                a part of a walk on a one-way graph: passes, begins a run, has no violation
 --   five-two-way-open, -judge, -carryOn       refusal 5 is given for two-way graphs only
 --   either-open, either-judge, either-carryOn   where every link goes both ways, both marks get the same answers
+--   judge-tests                               and judge's tests are the same
 -- Assumes nothing.
 use mathlib.Core.Path.{_≡_, refl, sym, ap, _∙_, subst}
 use mathlib.Core.Logic.{⊎-elim, _↔_}

@@ -171,5 +171,5 @@ module _ (rows : List ℕ) where
 
   pub along-consistent : length rows ≤ 64 → {columns : List ℕ} → Transposed rows columns → {p set free : ℕ} {labels smallest largest : List ℕ} → Along rows p labels smallest largest set free
       → Consistent columns labels smallest largest set
-  along-consistent small across {p} a =
-      consistent-after rows (a .walk) p small (a .ordering) across p (omega arith) (a .labelled) (a .smallest-after) (a .largest-after) (a .set)
+  along-consistent small transpose {p} a =
+      consistent-after rows (a .walk) p small (a .ordering) transpose p (omega arith) (a .labelled) (a .smallest-after) (a .largest-after) (a .set)

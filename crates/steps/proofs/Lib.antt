@@ -1,6 +1,6 @@
 pub mod Representation
 pub mod Copying
-pub mod Turning
+pub mod Transposition
 pub mod Tallying
 pub mod Tracking
 pub mod Growing

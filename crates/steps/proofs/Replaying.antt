@@ -51,7 +51,7 @@ module _ (s : Search) (rows w : List ℕ) (k : ℕ) where
   pub replay-consistent : {columns labels₀ smallest₀ largest₀ labels smallest largest : List ℕ} {placed free reached j : ℕ} → Replayable rows columns w k labels₀ smallest₀ largest₀
       → Replaying labels smallest largest placed free reached j → Consistent columns labels smallest largest placed
   replay-consistent {j = j} x r =
-      consistent-after rows w k (x .small) (record { long = x .long; vertices = x .vertices; distinct = x .distinct }) (x .turned) j (r .upto) (r .labelled) (r .smallest-after)
+      consistent-after rows w k (x .small) (record { long = x .long; vertices = x .vertices; distinct = x .distinct }) (x .transpose) j (r .upto) (r .labelled) (r .smallest-after)
       (r .largest-after) (r .set)
 
   -- what the code asks of the vertex b at position j

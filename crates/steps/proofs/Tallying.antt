@@ -88,7 +88,7 @@ module _ (rows w : List ℕ) (k : ℕ) (small : length rows ≤ 64) (o : IsOrder
       word.member-inserted (placedAfter w j) {e = at w j} (omega (arith, o .vertices j h)) v
       ∙ ap (λ (b : Bool). eqb (at w j) v || b) (placed-members j (omega arith) v)
 
-  module _ (columns : List ℕ) (across : Transposed rows columns) where
+  module _ (columns : List ℕ) (transpose : Transposed rows columns) where
     pub tallied-after : (j : ℕ) → j ≤ k → Tallied columns (labelsAfter rows w j) (placedAfter w j)
     unfolding placedAfter tally arcs
     tallied-after zero h v l =
@@ -114,11 +114,11 @@ module _ (rows w : List ℕ) (k : ℕ) (small : length rows ≤ 64) (o : IsOrder
         go same (inl vertex) =
             let row = getD rows u 0 in
             let here = o .vertices j h in
-            tally-more (getD columns v 0) (placedAfter w j) u (omega arith) fresh ∙ ap₂ (λ (b : Bool) (x : ℕ). cond b (suc x) x) (across .turned u v here vertex) same
+            tally-more (getD columns v 0) (placedAfter w j) u (omega arith) fresh ∙ ap₂ (λ (b : Bool) (x : ℕ). cond b (suc x) x) (transpose .swapped u v here vertex) same
             ∙ sym (label-more row j v (getD labels v 0) (omega (arith, ordering-fits (length rows) o)) (unused vertex))
             ∙ sym (ap (λ (x : ℕ). countBelow 64 (member x)) (kept-next labelWith 0 rows w small j v vertex))
         go same (inr beyond) =
-            let outside : length columns ≤ v = omega (arith, across .as-many) in
+            let outside : length columns ≤ v = omega (arith, transpose .as-many) in
             let none = List·getD-eq-default columns 0 outside in
             none-counted (getD columns v 0) (placedAfter w (suc j)) none ∙ sym (none-counted (getD columns v 0) (placedAfter w j) none) ∙ same
             ∙ ap (λ (x : ℕ). countBelow 64 (member x)) (kept-beyond labelWith 0 rows w j v l beyond ∙ sym (kept-beyond labelWith 0 rows w (suc j) v l beyond))

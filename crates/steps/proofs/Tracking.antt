@@ -150,9 +150,9 @@ module _ (rows w : List ℕ) (k : ℕ) (small : length rows ≤ 64) (o : IsOrder
 
   pub consistent-after : {columns : List ℕ} → Transposed rows columns → (j : ℕ) → j ≤ k → {labels smallest largest : List ℕ} {placed : ℕ} → labels ≡ labelsAfter rows w j
       → smallest ≡ smallestAfter rows w j → largest ≡ largestAfter rows w j → placed ≡ placedAfter w j → Consistent columns labels smallest largest placed
-  consistent-after {columns} across j h {labels} {smallest} {largest} {placed} at-labels at-smallest at-largest at-placed =
+  consistent-after {columns} transpose j h {labels} {smallest} {largest} {placed} at-labels at-smallest at-largest at-placed =
       subst (λ (ls : List ℕ). Consistent columns ls smallest largest placed) (sym at-labels)
       (subst (λ (ss : List ℕ). Consistent columns (labelsAfter rows w j) ss largest placed) (sym at-smallest)
       (subst (λ (ls : List ℕ). Consistent columns (labelsAfter rows w j) (smallestAfter rows w j) ls placed) (sym at-largest)
       (subst (λ (set : ℕ). Consistent columns (labelsAfter rows w j) (smallestAfter rows w j) (largestAfter rows w j) set) (sym at-placed)
-      (record { tallied = tallied-after rows w k small o columns across j h; tracked = tracked-after j h }))))
+      (record { tallied = tallied-after rows w k small o columns transpose j h; tracked = tracked-after j h }))))

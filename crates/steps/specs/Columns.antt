@@ -28,4 +28,4 @@ columnsOf Mark.OneWay rows = transposed rows
 
 pub record Transposed (rows columns : List ℕ) : Type 0 where
   pub as-many : length columns ≡ length rows
-  pub turned : (u v : ℕ) → u < length rows → v < length rows → arcs columns v u ≡ arcs rows u v
+  pub swapped : (u v : ℕ) → u < length rows → v < length rows → arcs columns v u ≡ arcs rows u v

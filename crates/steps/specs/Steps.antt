@@ -35,8 +35,8 @@ use Rattle.bitset.specs.Word.{member, inserted, removed, united, common, fullBe
 use Rattle.searches.specs.Kind.{Search}
 use Rattle.searches.specs.Ordering.{arcs, at, IsOrdering, IsFullOrdering}
 use Rattle.searches.specs.Violation.{third, Verdict, fails}
-use Rattle.steps.specs.Columns.{Transposed}
 use Rattle.labels.specs.Words.{Consistent, unexcusedIn, labelWith, smallestWith, largestWith, spreadBy, spreadTo, beatenIn, chosenIn, Covers}
+use Rattle.steps.specs.Columns.{Transposed}
 
 unfoldable pub keptAfter : (ℕ → ℕ → ℕ) → ℕ → List ℕ → List ℕ → ℕ → List ℕ
 keptAfter put start rows w zero = replicate 64 start
@@ -114,7 +114,7 @@ pub record Replayable (rows columns w : List ℕ) (k : ℕ) (labels smallest lar
   pub small : length rows ≤ 64
   pub vertices : (p : ℕ) → p < k → at w p < length rows
   pub distinct : (p q : ℕ) → p < q → q < k → at w p ≡ at w q → ⊥
-  pub turned : Transposed rows columns
+  pub transpose : Transposed rows columns
   pub empty : labels ≡ replicate 64 0
   pub no-smallest : smallest ≡ replicate 64 64
   pub no-largest : largest ≡ replicate 64 0
@@ -146,7 +146,7 @@ pub record Along (rows : List ℕ) (p : ℕ) (labels smallest largest : List ℕ
 pub record Fillable (rows columns t tail : List ℕ) (k : ℕ) (labels smallest largest : List ℕ) (placed free reached : ℕ) : Type 0 where
   pub fits : k ≤ length rows
   pub small : length rows ≤ 64
-  pub turned : Transposed rows columns
+  pub transpose : Transposed rows columns
   pub names : IsFullOrdering (length rows) t
   pub room : length rows - k ≤ length tail
   pub along : Along rows k labels smallest largest placed free

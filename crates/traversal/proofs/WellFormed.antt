@@ -31,7 +31,7 @@ use Rattle.steps.proofs.Representation.{open-offered, free-unplaced}
 use Rattle.steps.proofs.Tracking.{consistent-after}
 use Rattle.engine.specs.declared.after.Moment.{Moment}
 use Rattle.engine.specs.Moments.{noMoment, momentOf, momentAfter}
-use Rattle.engine.proofs.Calls.{valid-turns}
+use Rattle.engine.proofs.Calls.{valid-columns}
 use Rattle.traversal.specs.declared.Traversal.{Traversal}
 use Rattle.traversal.proofs.Unused.{unused-out, unused-in}
 use Rattle.traversal.specs.State.{plan, walk, usedFrom, wellFormed, surveyed, WellFormed, offers}
@@ -153,20 +153,20 @@ module _ (t : Traversal) (rows-full : length (t .rows) ≡ 64) (ordering-full : 
       )
 
   -- the columns that come with the moment
-  pub surveyed-turned : {r : Moment} → r ≡ surveyed t → T (wellFormed t) → Transposed (plan t) (take (t .n) (r .columns))
+  pub surveyed-transposed : {r : Moment} → r ≡ surveyed t → T (wellFormed t) → Transposed (plan t) (take (t .n) (r .columns))
   unfolding surveyed momentOf
-  surveyed-turned is x =
+  surveyed-transposed is x =
       let f = well-formed-out x in
       subst (λ (columns : List ℕ). Transposed (plan t) (take (t .n) columns))
       (sym (ap (λ (m : Moment). m .columns) (is ∙ cond-yes (wellFormed t) (momentOf (t .mark) (plan t) (walk t)) noMoment x)))
-      (subst (λ (m : ℕ). Transposed (plan t) (take m (columnsOf (t .mark) (plan t)))) (plan-length (f .points)) (valid-turns (t .kind .0) (t .mark) (plan t) (f .valid)))
+      (subst (λ (m : ℕ). Transposed (plan t) (take m (columnsOf (t .mark) (plan t)))) (plan-length (f .points)) (valid-columns (t .kind .0) (t .mark) (plan t) (f .valid)))
 
   -- there are n of them
   pub surveyed-columns : {r : Moment} → r ≡ surveyed t → T (wellFormed t) → (t .n ≤ length (r .columns)) × (t .n ≡ length (take (t .n) (r .columns)))
   surveyed-columns {r} is x =
       let n = plan-length (parts t x .points) in
-      let across = surveyed-turned is x in
-      let many : length (take (t .n) (r .columns)) ≡ t .n = across .as-many ∙ n in
+      let transpose = surveyed-transposed is x in
+      let many : length (take (t .n) (r .columns)) ≡ t .n = transpose .as-many ∙ n in
       (omega (arith, many, length-take (t .n) (r .columns)), sym many)
 
   pub surveyed-consistent : {r : Moment} → r ≡ surveyed t → T (wellFormed t) → Consistent (take (t .n) (r .columns)) (r .labels) (r .smallest) (r .largest) (r .placed)
@@ -177,7 +177,7 @@ module _ (t : Traversal) (rows-full : length (t .rows) ≡ 64) (ordering-full : 
       let k = walk-length (omega (arith, f .points, ordering-fits (t .n) (f .distinct))) in
       let there = is ∙ cond-yes (wellFormed t) (momentOf (t .mark) (plan t) (walk t)) noMoment x in
       let distinct = subst (λ (m : ℕ). IsOrdering m (walk t) (t .k)) (sym n) (f .distinct) in
-      consistent-after (plan t) (walk t) (t .k) (omega (arith, f .points)) distinct (surveyed-turned is x) (t .k) (omega arith)
+      consistent-after (plan t) (walk t) (t .k) (omega (arith, f .points)) distinct (surveyed-transposed is x) (t .k) (omega arith)
       (ap (λ (m : Moment). m .labels) there ∙ ap (λ (j : ℕ). labelsAfter (plan t) (walk t) j) k)
       (ap (λ (m : Moment). m .smallest) there ∙ ap (λ (j : ℕ). smallestAfter (plan t) (walk t) j) k)
       (ap (λ (m : Moment). m .largest) there ∙ ap (λ (j : ℕ). largestAfter (plan t) (walk t) j) k)

@@ -9,7 +9,7 @@ use lib.ListN.{length, take}
 use Rattle.searches.specs.Answer.{openTests, listTests, firstRefusal, Accepts, refusalOf}
 use Rattle.searches.proofs.Answers.{valid-small}
 use Rattle.steps.specs.Columns.{Transposed}
-use Rattle.steps.proofs.Turning.{transposed-turns, turned-within}
+use Rattle.steps.proofs.Transposition.{transposed-columns, columns-within}
 use Rattle.engine.specs.Lists.{Extendable}
 use Rattle.engine.proofs.Calls.{valid-own-transpose, carryOn-asked-refused, carryOn-asked-valid, carryOn-asked-accepted, carryOn-asked-last}
 use borrow.Author.Needs.{needs}
@@ -53,9 +53,9 @@ valid c =
 extendable : (c : tie.After-enum-told)
     → let a = c .before .before .before .before .before .before .before .args in
     (columns : List ℕ) → Transposed (now (a .rows)) columns → Extendable (now (a .rows)) columns (now (a .tie-break)) (now (a .output)) (a .k)
-extendable c columns across =
+extendable c columns transpose =
     let a = c .before .before .before .before .before .before .before .args in
-    carryOn-asked-accepted (a .kind .0) (a .mark) (now (a .rows)) (now (a .tie-break)) (now (a .output)) (a .k) (accepted c) across
+    carryOn-asked-accepted (a .kind .0) (a .mark) (now (a .rows)) (now (a .tie-break)) (now (a .output)) (a .k) (accepted c) transpose
 
 enum-told-2 : tie.Need-enum-told-2
 enum-told-2 c = c .match2 .keys1
@@ -92,19 +92,19 @@ transpose-requires : tie.Need-transpose-requires
 transpose-requires c κs = (small (c .before), refl)
 
 -- its rows, transposed
-turned : (c : tie.After-transpose)
+columns-there : (c : tie.After-transpose)
     → let rows = now (c .before .before .before .before .before .before .before .before .before .before .before .args .rows) in
     Transposed rows (take (length rows) (c .transpose .last .1 .0))
-turned c = transposed-turns _ (small (c .before .before)) (c .transpose .ensures)
+columns-there c = transposed-columns _ (small (c .before .before)) (c .transpose .ensures)
 
 array-share-prefix-columns : tie.Need-array-share-prefix-columns
-array-share-prefix-columns c = turned-within _ _ (turned c)
+array-share-prefix-columns c = columns-within _ _ (columns-there c)
 
 slice-aggregate-extend : tie.Need-slice-aggregate-extend
-slice-aggregate-extend c = sym (turned (c .before) .as-many)
+slice-aggregate-extend c = sym (columns-there (c .before) .as-many)
 
 extend-requires-2 : tie.Need-extend-requires-2
-extend-requires-2 c κs = let across = c .before .before in extendable (across .before .before .before .before) _ (turned across)
+extend-requires-2 c κs = let made = c .before .before in extendable (made .before .before .before .before) _ (columns-there made)
 
 same-length-3 : tie.Need-same-length-3
 same-length-3 c = search needs

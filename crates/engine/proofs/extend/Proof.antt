@@ -59,7 +59,7 @@ fill-requires c κs =
     record {
       fits = fits;
       small = s .pre .start .small;
-      turned = s .pre .start .turned;
+      transpose = s .pre .start .transpose;
       names = s .pre .names;
       along =
           along-ended (now (a .rows)) (now (a .output)) (a .k) (s .pre .start) (searchOf (a .kind .0)) (r .result .count) (r .ensures .0) (omega arith)

@@ -12,7 +12,7 @@ use Rattle.searches.specs.Violation.{judge as judgeOf}
 use Rattle.searches.specs.Answer.{openTests, judgeTests, firstRefusal, Accepts, judgeAnswer, verdictOf, refusalOf}
 use Rattle.searches.proofs.Answers.{valid-small}
 use Rattle.steps.specs.Columns.{Transposed}
-use Rattle.steps.proofs.Turning.{transposed-turns, turned-within}
+use Rattle.steps.proofs.Transposition.{transposed-columns, columns-within}
 use Rattle.engine.specs.Lists.{Judgeable}
 use Rattle.engine.proofs.Calls.{valid-own-transpose, judge-asked-refused, judge-asked-valid, judge-asked-accepted}
 use Rattle.engine.proofs.judge.Statement.{statement}
@@ -51,9 +51,9 @@ judgeable : (c : tie.After-enum-told)
     → Judgeable (now (a .rows)) columns (now (a .ordering)) (length (now (a .ordering)))
     × (judgeOf (searchOf (a .kind .0)) (arcs (now (a .rows))) (length (now (a .rows))) (now (a .ordering)) (length (now (a .ordering)))
     ≡ judgeAnswer (a .kind .0) (a .mark) (now (a .rows)) (now (a .ordering)))
-judgeable c columns across =
+judgeable c columns transpose =
     let a = c .before .before .before .before .before .args in
-    judge-asked-accepted (a .kind .0) (a .mark) (now (a .rows)) (now (a .ordering)) (accepted c) across
+    judge-asked-accepted (a .kind .0) (a .mark) (now (a .rows)) (now (a .ordering)) (accepted c) transpose
 
 enum-told-2 : tie.Need-enum-told-2
 enum-told-2 c = c .match2 .keys1
@@ -82,22 +82,22 @@ transpose-requires : tie.Need-transpose-requires
 transpose-requires c κs = (small (c .before), refl)
 
 -- its rows, transposed
-turned : (c : tie.After-transpose)
+columns-there : (c : tie.After-transpose)
     → let rows = now (c .before .before .before .before .before .before .before .before .before .args .rows) in
     Transposed rows (take (length rows) (c .transpose .last .1 .0))
-turned c = transposed-turns _ (small (c .before .before)) (c .transpose .ensures)
+columns-there c = transposed-columns _ (small (c .before .before)) (c .transpose .ensures)
 
 array-share-prefix-columns : tie.Need-array-share-prefix-columns
-array-share-prefix-columns c = turned-within _ _ (turned c)
+array-share-prefix-columns c = columns-within _ _ (columns-there c)
 
 slice-aggregate-verdict : tie.Need-slice-aggregate-verdict
-slice-aggregate-verdict c = sym (turned (c .before) .as-many)
+slice-aggregate-verdict c = sym (columns-there (c .before) .as-many)
 
 verdict-requires-2 : tie.Need-verdict-requires-2
-verdict-requires-2 c κs = judgeable (c .before .before .before .before .before) _ (turned (c .before)) .0
+verdict-requires-2 c κs = judgeable (c .before .before .before .before .before) _ (columns-there (c .before)) .0
 
 returns-3 : tie.Need-returns-3
-returns-3 c = c .verdict2 .ensures ∙ judgeable (c .before .before .before .before .before .before) _ (turned (c .before .before)) .1
+returns-3 c = c .verdict2 .ensures ∙ judgeable (c .before .before .before .before .before .before) _ (columns-there (c .before .before)) .1
 
 pub judge-spec : {M : Type 1} → statement M
 judge-spec =

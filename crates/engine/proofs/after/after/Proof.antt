@@ -10,8 +10,8 @@ use borrow.Author.Needs.{needs}
 use Rattle.searches.specs.Answer.{openTests, judgeTests, firstRefusal, Accepts, refusalOf}
 use Rattle.searches.proofs.Answers.{valid-small}
 use Rattle.steps.specs.Columns.{Transposed}
-use Rattle.steps.proofs.Turning.{turned-within}
-use Rattle.engine.proofs.Calls.{valid-turns, replayable, judge-asked-valid, judge-asked-accepted, moment-refused, moment-stopped, moment-ended}
+use Rattle.steps.proofs.Transposition.{columns-within}
+use Rattle.engine.proofs.Calls.{valid-columns, replayable, judge-asked-valid, judge-asked-accepted, moment-refused, moment-stopped, moment-ended}
 use Rattle.engine.proofs.after.after.Statement.{statement}
 use Rattle.engine.proofs.after.after.Tie as tie
 
@@ -52,28 +52,28 @@ columns-of-requires c κs =
     (valid-small (a .kind .0) (a .mark) (now (a .rows)) (valid told), refl)
 
 -- what is counted in are the columns
-turned : (c : tie.After-columns-of)
+columns-there : (c : tie.After-columns-of)
     → let rows = now (c .before .before .before .before .before .before .before .args .rows) in
     Transposed rows (take (length rows) (c .columns-of .last .1 .1 .0))
-turned c =
+columns-there c =
     let told = c .before .before in
     let a = told .before .before .before .before .before .args in
     subst (λ (columns : List ℕ). Transposed (now (a .rows)) (take (length (now (a .rows))) columns)) (sym (c .columns-of .ensures))
-    (valid-turns (a .kind .0) (a .mark) (now (a .rows)) (valid told))
+    (valid-columns (a .kind .0) (a .mark) (now (a .rows)) (valid told))
 
 array-share-prefix-columns : tie.Need-array-share-prefix-columns
-array-share-prefix-columns c = turned-within _ _ (turned c)
+array-share-prefix-columns c = columns-within _ _ (columns-there c)
 
 slice-aggregate-replay : tie.Need-slice-aggregate-replay
-slice-aggregate-replay c = sym (turned (c .before) .as-many)
+slice-aggregate-replay c = sym (columns-there (c .before) .as-many)
 
 replay-requires : tie.Need-replay-requires
 replay-requires c κs =
-    let across = c .before .before .before .before in
-    let told = across .before .before in
+    let made = c .before .before .before .before in
+    let told = made .before .before in
     let a = told .before .before .before .before .before .args in
     replayable (now (a .rows)) (now (a .ordering)) (length (now (a .ordering)))
-    (judge-asked-accepted (a .kind .0) (a .mark) (now (a .rows)) (now (a .ordering)) (accepted told) (turned across) .0)
+    (judge-asked-accepted (a .kind .0) (a .mark) (now (a .rows)) (now (a .ordering)) (accepted told) (columns-there made) .0)
 
 no-moment-requires-2 : tie.Need-no-moment-requires-2
 no-moment-requires-2 c κs = search needs
@@ -88,11 +88,11 @@ returns-2 c =
 returns-3 : tie.Need-returns-3
 returns-3 c =
     let r = c .before .before in
-    let across = r .before .before .before .before .before in
-    let told = across .before .before in
+    let made = r .before .before .before .before .before in
+    let told = made .before .before in
     let a = told .before .before .before .before .before .args in
     moment-ended (a .kind .0) (a .mark) (now (a .rows)) (now (a .ordering)) (accepted told) (r .replay .result .count) (r .replay .ensures .0) (c .if1 .left)
-    (across .columns-of .ensures) (r .replay .ensures .1 .0) (r .replay .ensures .1 .1 .0) (r .replay .ensures .1 .1 .1 .1 .0) (r .replay .ensures .1 .1 .1 .1 .1 .0)
+    (made .columns-of .ensures) (r .replay .ensures .1 .0) (r .replay .ensures .1 .1 .0) (r .replay .ensures .1 .1 .1 .1 .0) (r .replay .ensures .1 .1 .1 .1 .1 .0)
     (r .replay .ensures .1 .1 .1 .1 .1 .1)
 
 pub after-spec : {M : Type 1} → statement M

@@ -39,7 +39,7 @@ choose-requires : tie.Need-choose-requires Inv-loop μ-loop
 choose-requires c κs =
     let l = c .before .before .before .before in
     let s = l .before .before .before .before .before in
-    (l .loop .inv .2, along-consistent (now (s .args .rows)) (s .pre .small) (s .pre .turned) (l .loop .inv .1))
+    (l .loop .inv .2, along-consistent (now (s .args .rows)) (s .pre .small) (s .pre .transpose) (l .loop .inv .1))
 
 slice-write-tail : tie.Need-slice-write-tail Inv-loop μ-loop
 slice-write-tail c = omega (arith, c .before .before .before .before .before .loop .inv .0 .long)

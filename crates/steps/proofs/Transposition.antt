@@ -1,8 +1,8 @@
 -- The columns of a graph hold those that lead to each vertex.
 --   own-transpose            the rows of a two-way graph are their own transpose
---   turned-within            columns that are the first words of an array fit into it
+--   columns-within            columns that are the first words of an array fit into it
 --   column-members           what is in a column while the rows are gone through
---   transposed-turns         the transposed rows are the columns;   columns-turn   and so is what is counted in, for either mark
+--   transposed-columns         the transposed rows are the columns;   counted-columns   and so is what is counted in, for either mark
 -- Assumes nothing.
 use mathlib.Core.Path.{_≡_, refl, sym, ap, _∙_, subst}
 use mathlib.Core.Bool.{Bool, _&&_, _||_}
@@ -22,13 +22,13 @@ use Rattle.labels.proofs.Spreading.{spread-length, spread-at}
 use Rattle.steps.specs.Columns.{columnsBelow, transposed, columnsOf, Transposed}
 use Rattle.steps.proofs.Representation.{suc-split, cut-same, member-joined}
 
--- 02: K4, a two-way graph's rows need no turning
+-- 02: K4, a two-way graph's rows need no transposing
 pub own-transpose : (rows : List ℕ) → BothWays rows → Transposed rows rows
-own-transpose rows both = record { as-many = refl; turned = λ u v l h. both v u h l }
+own-transpose rows both = record { as-many = refl; swapped = λ u v l h. both v u h l }
 
--- so many words are there
-pub turned-within : (rows columns : List ℕ) → Transposed rows (take (length rows) columns) → length rows ≤ length columns
-turned-within rows columns across = omega (arith, across .as-many, length-take (length rows) columns)
+-- there are at least so many words
+pub columns-within : (rows columns : List ℕ) → Transposed rows (take (length rows) columns) → length rows ≤ length columns
+columns-within rows columns transpose = omega (arith, transpose .as-many, length-take (length rows) columns)
 
 columns-length : (rows : List ℕ) (i : ℕ) → length (columnsBelow rows i) ≡ 64
 unfolding columnsBelow
@@ -46,18 +46,18 @@ module _ (rows : List ℕ) (small : length rows ≤ 64) where
       ∙ ap (λ (b : Bool). (eqb i u && arcs rows i v) || b) (column-members i (omega arith) v l u) ∙ suc-split i u (λ p. arcs rows p v)
 
   -- words that are the transposed rows, as many as there are rows
-  pub transposed-turns : {columns : List ℕ} → columns ≡ transposed rows → Transposed rows (take (length rows) columns)
+  pub transposed-columns : {columns : List ℕ} → columns ≡ transposed rows → Transposed rows (take (length rows) columns)
   unfolding transposed arcs
-  transposed-turns e = subst (λ (columns : List ℕ). Transposed rows (take (length rows) columns)) (sym e) (record {
+  transposed-columns e = subst (λ (columns : List ℕ). Transposed rows (take (length rows) columns)) (sym e) (record {
     as-many = length-take-le (length rows) (columnsBelow rows (length rows)) (omega (arith, columns-length rows (length rows)));
-    turned = λ u v l h.
+    swapped = λ u v l h.
         ap (λ (column : ℕ). member column u) (getD-take (length rows) (columnsBelow rows (length rows)) v 0 h)
         ∙ cut-same (length rows) (member (getD (columnsBelow rows (length rows)) v 0)) (λ p. arcs rows p v) (column-members (length rows) (omega arith) v h) u l;
   })
 
   -- words that are what is counted in, for a graph of either mark
-  pub columns-turn : (mark : Mark) → (T (isTwoWay mark) → BothWays rows) → Transposed rows (take (length rows) (columnsOf mark rows))
+  pub counted-columns : (mark : Mark) → (T (isTwoWay mark) → BothWays rows) → Transposed rows (take (length rows) (columnsOf mark rows))
   unfolding columnsOf isTwoWay
-  columns-turn Mark.TwoWay both =
+  counted-columns Mark.TwoWay both =
       subst (λ (columns : List ℕ). Transposed rows columns) (sym (take-at rows (replicate (64 - length rows) 0) (length rows) refl)) (own-transpose rows (both tt))
-  columns-turn Mark.OneWay both = transposed-turns refl
+  counted-columns Mark.OneWay both = transposed-columns refl
