@@ -1,12 +1,10 @@
 -- What charging refuses, and what is known of the lists where it refuses nothing.
 --   malformed-in, malformed-out              what 18's test means
---   unpassed-fails, fails-unpassed           what 20's test means;   fails-accepts   what fails is not refused
---   judged-refused, judged-decided           what judge's verdict leaves of the tests: its refusal, or those after it
 --   chargeable-in, chargeable-out            nothing is refused exactly where every condition holds
 --   length-bounded, entry-bounded, charged-minutes-bounded, product-bounded   how many positions, minutes and sixtieths of a cent there can then be
 --   charge-refused, charge-accepted          the answer from the tests;   refused-charge, cents-charge   the tests from the answer
 -- Assumes nothing.
-use mathlib.Core.Path.{_≡_, refl, sym, ap, _∙_, subst}
+use mathlib.Core.Path.{_≡_, sym, subst}
 use mathlib.Core.Logic.{_⊎_, inl, inr}
 use mathlib.Core.Bool.{Bool, not}
 use mathlib.Core.List.{List}
@@ -21,14 +19,12 @@ use Rattle.bitset.proofs.Tests.{or-inl, or-inr, or-out, not-not, below-or}
 use Rattle.bitset.proofs.Below.{any-out, any-at}
 use Rattle.searches.specs.Kind.{searchOf}
 use Rattle.searches.specs.Ordering.{arcs, at}
-use Rattle.searches.specs.Violation.{Verdict, passes, fails, Fails, judge}
-use Rattle.searches.specs.Violation as violation
+use Rattle.searches.specs.Violation.{Verdict, judge}
 use Rattle.searches.specs.declared.Mark.{Mark}
-use Rattle.searches.specs.Answer.{isPass, judgeTests, firstRefusal, Accepts, Refuses, judgeAnswer}
+use Rattle.searches.specs.Answer.{isPass, judgeTests, firstRefusal, Accepts, Refuses}
 use Rattle.searches.proofs.Ordering.{ordering-fits}
 use Rattle.searches.proofs.Refusals.{refuses-first, accepts-none, accepts-or-refuses}
-use Rattle.searches.proofs.Answers.{accepts-both, both-accept, valid-small, isPass-out, accepted-ordering, judge-accepted, judge-refused, refused-judge}
-use Rattle.checks.proofs.Tried.{tried-first, refused-before}
+use Rattle.searches.proofs.Answers.{accepts-both, both-accept, valid-small, isPass-out, accepted-ordering}
 use Rattle.charge.specs.Minutes.{minutesOf}
 use Rattle.charge.specs.Charge.{product, centsHalvesUp, largestMinutes, largestProduct, malformedMinutes, Malformed, testsAfterJudge, chargeTests, Chargeable}
 use Rattle.charge.specs.Charge.{cents, refused, chargeAnswer}
@@ -56,55 +52,11 @@ module _ (n : ℕ) (minutes : List ℕ) where
           let x = any-out (length minutes) (λ i. ltb 999 (at minutes i)) some-above in
           inr (x .at, x .below, ltb→lt 999 (at minutes (x .at)) (x .holds))
 
--- ---- what 20's test means
-
-module _ (kind : ℕ) (mark : Mark) (rows w : List ℕ) where
-  abbrev verdict : Verdict
-  verdict = judge (searchOf kind) (arcs rows) (length rows) w (length w)
-
-  pub unpassed-fails : Accepts (judgeTests kind mark rows w) → T (not (isPass verdict)) → Fails (judgeAnswer kind mark rows w)
-  unfolding isPass
-  unpassed-fails a t = go (judgeAnswer kind mark rows w) refl (subst (λ (v : Verdict). T (not (isPass v))) (sym (judge-accepted kind mark rows w a)) t)
-    where
-      go : (v : Verdict) → judgeAnswer kind mark rows w ≡ v → T (not (isPass v)) → Fails (judgeAnswer kind mark rows w)
-      go passes e t = absurd t
-      go (fails a b c) e t = (a, b, c, e)
-      go (violation.refused r) e t =
-          let clash : _≡_ {A = ℕ} 0 1 = cc (accepts-none (judgeTests kind mark rows w) a, refuses-first (judgeTests kind mark rows w) r (refused-judge kind mark rows w r e)) in
-          absurd (omega arith)
-
-  pub fails-accepts : Fails (judgeAnswer kind mark rows w) → Accepts (judgeTests kind mark rows w)
-  fails-accepts x = go (accepts-or-refuses (judgeTests kind mark rows w))
-    where
-      go : Accepts (judgeTests kind mark rows w) ⊎ ((q : ℕ) × Refuses q (judgeTests kind mark rows w)) → Accepts (judgeTests kind mark rows w)
-      go (inl a) = a
-      go (inr y) = let clash : _≡_ {A = ℕ} 0 1 = cc (x .3, judge-refused kind mark rows w (y .0) (y .1)) in absurd (omega arith)
-
-  pub fails-unpassed : Accepts (judgeTests kind mark rows w) → Fails (judgeAnswer kind mark rows w) → T (not (isPass verdict))
-  unfolding isPass
-  fails-unpassed a x = subst (λ (v : Verdict). T (not (isPass v))) (sym (x .3) ∙ judge-accepted kind mark rows w a) tt
-
--- ---- what judge's verdict leaves of the tests
+-- ---- nothing is refused exactly where every condition holds
 
 module _ (kind : ℕ) (mark : Mark) (rows w minutes : List ℕ) (rate : ℕ) where
-  pub judged-refused : (r : ℕ) → violation.refused r ≡ judgeAnswer kind mark rows w → some r ≡ firstRefusal (chargeTests kind mark rows w minutes rate)
-  unfolding chargeTests
-  judged-refused r e =
-      refused-before (judgeTests kind mark rows w) _ (sym (refuses-first (judgeTests kind mark rows w) r (refused-judge kind mark rows w r (sym e))))
-
-  pub judged-decided : {v : Verdict} → v ≡ judgeAnswer kind mark rows w → ((r : ℕ) → v ≡ violation.refused r → ⊥)
-      → firstRefusal (testsAfterJudge (length rows) minutes rate (isPass v)) ≡ firstRefusal (chargeTests kind mark rows w minutes rate)
-  unfolding chargeTests
-  judged-decided {v} e decided = go (accepts-or-refuses (judgeTests kind mark rows w))
-    where
-      go : Accepts (judgeTests kind mark rows w) ⊎ ((q : ℕ) × Refuses q (judgeTests kind mark rows w))
-          → firstRefusal (testsAfterJudge (length rows) minutes rate (isPass v)) ≡ firstRefusal (chargeTests kind mark rows w minutes rate)
-      go (inl a) =
-          ap (λ (x : Verdict). firstRefusal (testsAfterJudge (length rows) minutes rate (isPass x))) (e ∙ judge-accepted kind mark rows w a)
-          ∙ tried-first (judgeTests kind mark rows w) (testsAfterJudge (length rows) minutes rate (isPass (verdict kind mark rows w))) (sym (accepts-none (judgeTests kind mark rows w) a)) .same
-      go (inr x) = absurd (decided (x .0) (e ∙ judge-refused kind mark rows w (x .0) (x .1)))
-
-  -- ---- nothing is refused exactly where every condition holds
+  abbrev verdict : Verdict
+  verdict = judge (searchOf kind) (arcs rows) (length rows) w (length w)
 
   pub chargeable-out : Accepts (chargeTests kind mark rows w minutes rate) → Chargeable kind mark rows w minutes rate
   unfolding chargeTests testsAfterJudge
@@ -117,7 +69,7 @@ module _ (kind : ℕ) (mark : Mark) (rows w minutes : List ℕ) (rate : ℕ) whe
         listed = eqb→eq (length minutes) (length rows) (not-not as-many (not-T (not as-many) (λ t. sound (inl (differs (length minutes) (length rows) t)))));
         each = λ v l. nltb→le 999 (at minutes v) (not-T (ltb 999 (at minutes v)) (λ t. sound (inr (v, l, ltb→lt 999 (at minutes v) t))));
         rated = nltb→le 99999 rate (not-T (ltb 99999 rate) (x .1 .1 .0));
-        passing = isPass-out (verdict kind mark rows w) (not-not (isPass (verdict kind mark rows w)) (not-T (not (isPass (verdict kind mark rows w))) (x .1 .1 .1 .0)));
+        passing = isPass-out verdict (not-not (isPass verdict) (not-T (not (isPass verdict)) (x .1 .1 .1 .0)));
       }
 
   pub chargeable-in : Chargeable kind mark rows w minutes rate → Accepts (chargeTests kind mark rows w minutes rate)

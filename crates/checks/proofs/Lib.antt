@@ -1,2 +1,3 @@
 pub mod Seen
 pub mod Tried
+pub mod AfterJudge

@@ -10,6 +10,7 @@ pub mod Judge
 pub mod CarryOn
 pub mod Passing
 pub mod Refusals
+pub mod Numbered
 pub mod Answers
 pub mod Parts
 pub mod Examples

@@ -4,10 +4,12 @@ use mathlib.Core.Path.{_≡_, sym, ap, _∙_}
 use Prim.Native.Nat.{ℕ}
 use native.Mathlib.Omega.{arith}
 use denote.Ref.{now}
+use lib.ListN.{length}
 use borrow.Author.Needs.{needs}
 use Rattle.searches.specs.Violation.{passes, fails}
 use Rattle.searches.specs.Answer.{isPass, refusalOf, verdictOf}
-use Rattle.charge.proofs.Charging.{judged-refused, judged-decided}
+use Rattle.checks.proofs.AfterJudge.{judged-refused, judged-decided}
+use Rattle.charge.specs.Charge.{testsAfterJudge, chargeTests}
 use Rattle.charge.proofs.charge_refusal.Statement.{statement}
 use Rattle.charge.proofs.charge_refusal.Tie as tie
 
@@ -30,28 +32,28 @@ enum-known-judged : tie.Need-enum-known-judged
 enum-known-judged c = search needs
 
 returns : tie.Need-returns
-unfolding verdictOf isPass
+unfolding verdictOf isPass chargeTests
 returns c =
     let a = c .before .before .before .before .before .before .before .args in
     c .refusal-after-judge .ensures
-    ∙ judged-decided (a .kind .0) (a .mark) (now (a .rows)) (now (a .ordering)) (now (a .minutes)) (a .rate) {v = passes}
+    ∙ judged-decided (a .kind .0) (a .mark) (now (a .rows)) (now (a .ordering)) (testsAfterJudge (length (now (a .rows))) (now (a .minutes)) (a .rate)) {v = passes}
     (sym (ap verdictOf (c .before .enum-told .given .1)) ∙ c .before .before .before .judge .ensures)
     (λ r e. let clash : _≡_ {A = ℕ} 0 1 = cc in omega arith)
 
 returns-2 : tie.Need-returns-2
-unfolding verdictOf isPass
+unfolding verdictOf isPass chargeTests
 returns-2 c =
     let a = c .before .before .before .before .before .before .before .args in
     c .refusal-after-judge2 .ensures
-    ∙ judged-decided (a .kind .0) (a .mark) (now (a .rows)) (now (a .ordering)) (now (a .minutes)) (a .rate) {v = fails _ _ _}
+    ∙ judged-decided (a .kind .0) (a .mark) (now (a .rows)) (now (a .ordering)) (testsAfterJudge (length (now (a .rows))) (now (a .minutes)) (a .rate)) {v = fails _ _ _}
     (sym (ap verdictOf (c .before .enum-told2 .given .1)) ∙ c .before .before .before .judge .ensures)
     (λ r e. let clash : _≡_ {A = ℕ} 0 1 = cc in omega arith)
 
 returns-3 : tie.Need-returns-3
-unfolding verdictOf refusalOf
+unfolding verdictOf refusalOf chargeTests
 returns-3 c =
     let a = c .before .before .before .before .before .before .before .args in
-    judged-refused (a .kind .0) (a .mark) (now (a .rows)) (now (a .ordering)) (now (a .minutes)) (a .rate) _
+    judged-refused (a .kind .0) (a .mark) (now (a .rows)) (now (a .ordering)) (testsAfterJudge (length (now (a .rows))) (now (a .minutes)) (a .rate)) _
     (sym (ap verdictOf (c .before .judged .given .1)) ∙ c .before .before .before .judge .ensures)
 
 pub charge-refusal-spec : {M : Type 1} → statement M
