@@ -28,5 +28,7 @@ pub fn number(refusal: Refusal) -> u32
         Refusal::MalformedMinutes => 18,
         Refusal::RateTooHigh => 19,
         Refusal::OrderingFails => 20,
+        Refusal::NotBreadthFirst => 21,
+        Refusal::NotPlaced => 22,
     }
 }

@@ -142,6 +142,8 @@ number Refusal.NothingToTakeBack = 17
 number Refusal.MalformedMinutes = 18
 number Refusal.RateTooHigh = 19
 number Refusal.OrderingFails = 20
+number Refusal.NotBreadthFirst = 21
+number Refusal.NotPlaced = 22
 
 unfoldable pub verdictOf : Judgement → Verdict
 verdictOf Judgement.Passes = passes

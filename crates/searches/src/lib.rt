@@ -84,6 +84,10 @@ pub enum Refusal {
     RateTooHigh,
     // 20
     OrderingFails,
+    // 21
+    NotBreadthFirst,
+    // 22
+    NotPlaced,
 }
 
 // What judging an ordering answers.

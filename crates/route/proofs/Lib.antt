@@ -1,0 +1,9 @@
+pub mod Tree
+pub mod Standing
+pub mod Shortest
+pub mod Ways
+pub mod Climbing
+pub mod Tracing
+pub mod Stated
+pub mod Routes
+pub mod Examples

@@ -1,0 +1,72 @@
+-- `route::way_refusal` meets its contract: judge's refusal, or after its verdict the first of the tests behind it.
+-- Assumes nothing.
+use mathlib.Core.Path.{_≡_, sym, ap, _∙_}
+use Prim.Native.Nat.{ℕ}
+use native.Mathlib.Omega.{arith}
+use denote.Ref.{now}
+use lib.ListN.{length}
+use borrow.Author.Needs.{needs}
+use Rattle.searches.specs.Kind.{bfs, kindOf, searchOf}
+use Rattle.searches.specs.Violation.{passes, fails}
+use Rattle.searches.specs.Answer.{isPass, refusalOf, verdictOf}
+use Rattle.checks.proofs.AfterJudge.{judged-refused, judged-decided}
+use Rattle.route.specs.WayBack.{testsAfterJudge, wayTests}
+use Rattle.route.proofs.way_refusal.Statement.{statement}
+use Rattle.route.proofs.way_refusal.Tie as tie
+
+judge-requires : tie.Need-judge-requires
+judge-requires c κs = search needs
+
+enum-told : tie.Need-enum-told
+enum-told c = search needs
+
+refusal-after-judge-requires : tie.Need-refusal-after-judge-requires
+refusal-after-judge-requires c κs = search needs
+
+enum-told-2 : tie.Need-enum-told-2
+enum-told-2 c = search needs
+
+refusal-after-judge-requires-2 : tie.Need-refusal-after-judge-requires-2
+refusal-after-judge-requires-2 c κs = search needs
+
+enum-known-judged : tie.Need-enum-known-judged
+enum-known-judged c = search needs
+
+returns : tie.Need-returns
+unfolding verdictOf isPass wayTests kindOf searchOf
+returns c =
+    let a = c .before .before .before .before .before .before .args in
+    c .refusal-after-judge .ensures
+    ∙ judged-decided (kindOf bfs) (a .mark) (now (a .rows)) (now (a .ordering)) (testsAfterJudge (length (now (a .rows))) (now (a .ordering)) (a .vertex .0) (a .room)) {v = passes}
+    (sym (ap verdictOf (c .before .enum-told .given .1)) ∙ c .before .before .before .judge .ensures)
+    (λ r e. let clash : _≡_ {A = ℕ} 0 1 = cc in omega arith)
+
+returns-2 : tie.Need-returns-2
+unfolding verdictOf isPass wayTests kindOf searchOf
+returns-2 c =
+    let a = c .before .before .before .before .before .before .args in
+    c .refusal-after-judge2 .ensures
+    ∙ judged-decided (kindOf bfs) (a .mark) (now (a .rows)) (now (a .ordering)) (testsAfterJudge (length (now (a .rows))) (now (a .ordering)) (a .vertex .0) (a .room)) {v = fails _ _ _}
+    (sym (ap verdictOf (c .before .enum-told2 .given .1)) ∙ c .before .before .before .judge .ensures)
+    (λ r e. let clash : _≡_ {A = ℕ} 0 1 = cc in omega arith)
+
+returns-3 : tie.Need-returns-3
+unfolding verdictOf refusalOf wayTests kindOf searchOf
+returns-3 c =
+    let a = c .before .before .before .before .before .before .args in
+    judged-refused (kindOf bfs) (a .mark) (now (a .rows)) (now (a .ordering)) (testsAfterJudge (length (now (a .rows))) (now (a .ordering)) (a .vertex .0) (a .room)) _
+    (sym (ap verdictOf (c .before .judged .given .1)) ∙ c .before .before .before .judge .ensures)
+
+pub way-refusal-spec : {M : Type 1} → statement M
+way-refusal-spec =
+    tie.close
+    (tie.spec
+    judge-requires
+    enum-told
+    refusal-after-judge-requires
+    enum-told-2
+    refusal-after-judge-requires-2
+    enum-known-judged
+    returns
+    returns-2
+    returns-3)

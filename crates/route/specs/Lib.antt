@@ -1,0 +1,3 @@
+pub mod Tree
+pub mod Path
+pub mod WayBack
