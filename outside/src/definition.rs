@@ -1,4 +1,5 @@
-//! The definitions of 01, and of MCS, the charge and one-way plans from 02, computed as they read, by trying everything.
+//! The definitions of 01, and of MCS, the charge, one-way plans and the way back from 02, computed as they read, by
+//! trying everything.
 //!
 //!   Mark                        whether the links of a plan have a direction       [02: K4]
 //!   Graph                       a plan: one row of 64 bits for each point          [01: plan]
@@ -12,6 +13,7 @@
 //!   open_walk                   the open walk, and its four calls
 //!   sheet                       the sheet: written, read and judged
 //!   charge                      what a walk is charged                             [02: K2]
+//!   way_back                    the way back from a point of a BFS walk            [02: K5]
 
 /// A point's number.
 pub type Vertex = usize;
@@ -247,6 +249,7 @@ pub mod charge;
 pub mod open_walk;
 pub mod sheet;
 mod violation;
+pub mod way_back;
 
 pub use violation::first_violation;
 

@@ -9,6 +9,7 @@
 //!   g   which passes carry over from one kind to another
 //!   h   the walks that a program of the library charges
 //!   i   the same calls under either mark of a plan
+//!   j   the ways back that a program of the library finds
 
 mod carry_over;
 mod charged_walks;
@@ -21,6 +22,7 @@ mod printed;
 mod random_calls;
 mod sheets;
 mod small_plans;
+mod ways_back;
 
 fn main() {
     let calls = examples::compare()
@@ -31,6 +33,7 @@ fn main() {
         + sheets::compare()
         + carry_over::compare()
         + charged_walks::compare()
-        + either_mark::compare();
+        + either_mark::compare()
+        + ways_back::compare();
     println!("all {calls} calls agree");
 }
