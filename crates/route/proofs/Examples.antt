@@ -14,7 +14,7 @@ use Rattle.searches.specs.Violation.{condition, meets, violates, third, isLast,
 use Rattle.searches.specs.Answer.{bitOutside, selfLoop, oneWay, isTwoWay, vertexOutside, repeated, isPass, openTests, judgeTests, firstRefusal}
 use Rattle.searches.specs.declared.Mark.{Mark}
 use Rattle.route.specs.Tree.{parent, isRoot, ancestor, depth, pathDown, treePath}
-use Rattle.route.specs.WayBack.{positionOf, wayTo, testsAfterJudge, wayTests, Way, points, refused, wayAnswer, wayOutput}
+use Rattle.route.specs.WayBack.{positionOf, wayTo, testsAfterBfs, wayTests, Way, points, refused, wayAnswer, wayOutput}
 
 pub record Example : Type 0 where
   pub mark : Mark
@@ -69,5 +69,5 @@ examples =
 
 pub examples-right : (map (λ (e : Example). wayAnswer (e .mark) (e .rows) (e .walk) (e .point) (e .output)) examples ≡ map (λ (e : Example). e .answer) examples)
     × (map (λ (e : Example). wayOutput (e .mark) (e .rows) (e .walk) (e .point) (e .output)) examples ≡ map (λ (e : Example). e .left) examples)
-unfolding member anyBelow firstBelow kindOf arcs placed label condition meets violates third isLast isFirst isMiddle judge bitOutside selfLoop oneWay isTwoWay vertexOutside repeated isPass openTests judgeTests firstRefusal parent isRoot ancestor depth pathDown treePath positionOf wayTo testsAfterJudge wayTests wayAnswer wayOutput
+unfolding member anyBelow firstBelow kindOf arcs placed label condition meets violates third isLast isFirst isMiddle judge bitOutside selfLoop oneWay isTwoWay vertexOutside repeated isPass openTests judgeTests firstRefusal parent isRoot ancestor depth pathDown treePath positionOf wayTo testsAfterBfs wayTests wayAnswer wayOutput
 examples-right = (refl, refl)

@@ -19,7 +19,7 @@ use Rattle.searches.specs.Answer.{BothWays, openTests, judgeTests, firstRefusal
 use Rattle.searches.proofs.Refusals.{refuses-first, accepts-none}
 use Rattle.searches.proofs.Marks.{judge-tests}
 use Rattle.route.specs.Tree.{parent, isRoot}
-use Rattle.route.specs.WayBack.{positionOf, wayTo, ShortestWay, testsAfterJudge, wayTests, Traceable, points, refused, wayAnswer, wayOutput}
+use Rattle.route.specs.WayBack.{positionOf, wayTo, ShortestWay, testsAfterBfs, wayTests, Traceable, points, refused, wayAnswer, wayOutput}
 use Rattle.route.proofs.Tree as tree
 use Rattle.route.proofs.Ways as ways
 use Rattle.route.proofs.Tracing as tracing
@@ -49,7 +49,7 @@ module _ (mark : Mark) (rows w : List ℕ) (v : ℕ) (out : List ℕ) where
 
   -- judge's own checks, then 21, 22 and 10, in this order
   pub way-order : map (λ (test : ℕ × Bool). test .0) (wayTests mark rows w v (length out)) ≡ 1 ∷ 2 ∷ 3 ∷ 4 ∷ 5 ∷ 6 ∷ 8 ∷ 9 ∷ 21 ∷ 22 ∷ 10 ∷ []
-  unfolding openTests judgeTests testsAfterJudge wayTests
+  unfolding openTests judgeTests testsAfterBfs wayTests
   way-order = refl
 
   -- each refusal in its stated case and no other: the answer is refusal r exactly when r's test holds and no earlier one does

@@ -18,12 +18,11 @@ use Rattle.searches.specs.Kind.{bfs}
 use Rattle.searches.specs.Ordering.{at, IsOrdering}
 use Rattle.searches.specs.Run.{Run}
 use Rattle.searches.specs.Violation.{passes, judge}
-use Rattle.searches.proofs.Ordering.{begins-agree, placed-out, all-placed, ordering-fits}
+use Rattle.searches.proofs.Ordering.{begins-agree, placed-out, all-placed, ordering-fits, same-position}
 use Rattle.searches.proofs.Run.{Greedy, greedy-ordering, reached-greedy}
 use Rattle.searches.proofs.Passing.{passes-begins}
 use Rattle.route.specs.Tree.{ancestor, depth, root, treePath}
 use Rattle.route.specs.Path.{arcCount, IsPath}
-use Rattle.route.proofs.Standing.{same-position}
 use Rattle.route.proofs.Tree.{parent-leads, parent-earliest, ancestor-within, ancestor-falls, ancestor-agree, depth-agree, parent-monotone, tree-length, tree-at}
 
 module _ (arc : ℕ → ℕ → Bool) (n : ℕ) where
@@ -100,7 +99,7 @@ module _ (arc : ℕ → ℕ → Bool) (n : ℕ) where
       unfolding ancestor
       climbs zero h p i e =
           let all : arcCount x - 0 ≡ arcCount x = omega arith in
-          let same : p ≡ q = same-position ordering p q i l (e ∙ ap (λ (c : ℕ). at x c) all ∙ path .last) in
+          let same : p ≡ q = same-position n ordering p q i l (e ∙ ap (λ (c : ℕ). at x c) all ∙ path .last) in
           omega arith
       climbs (suc m) h p i e =
           let c : ℕ = arcCount x - suc m in

@@ -1,20 +1,19 @@
 -- Where a vertex stands in an ordering.
 --   found-placed, unfound-absent     22's test, from the position that the search for the vertex ends at
 --   placed-stands                    a placed vertex stands at its position
---   same-position, at-position       of distinct vertices each stands at one position only
+--   at-position                      of distinct vertices each stands at one position only
 -- Assumes nothing.
-use mathlib.Core.Path.{_≡_, refl, sym, ap}
-use mathlib.Core.Logic.{_⊎_, inl, inr}
+use mathlib.Core.Path.{_≡_, refl, ap}
 use mathlib.Core.Bool.{true, false, not}
 use mathlib.Core.List.{List}
 use Prim.Native.Nat.{ℕ, _≤_, _<_}
 use lib.Dec.{T, eqb, eqb→eq}
 use lib.ListN.{length}
-use Rattle.bitset.proofs.Tests.{is-true, is-false, three-ways}
+use Rattle.bitset.proofs.Tests.{is-true, is-false}
 use Rattle.bitset.proofs.Below.{any-out, first, first-found}
 use Rattle.bitset.proofs.Passed.{some-found, none-found}
 use Rattle.searches.specs.Ordering.{at, placed, IsOrdering}
-use Rattle.searches.proofs.Ordering.{placed-in}
+use Rattle.searches.proofs.Ordering.{placed-in, same-position}
 use Rattle.route.specs.WayBack.{positionOf}
 
 module _ (w : List ℕ) (v : ℕ) where
@@ -32,15 +31,7 @@ module _ (w : List ℕ) (v : ℕ) where
       let l = first-found (any-out (length w) (λ p. eqb (at w p) v) t) in
       (l, eqb→eq (at w (positionOf w v)) v (first (length w) (λ p. eqb (at w p) v) .holds l))
 
-pub same-position : {n : ℕ} {w : List ℕ} {k : ℕ} → IsOrdering n w k → (p q : ℕ) → p < k → q < k → at w p ≡ at w q → p ≡ q
-same-position o p q h l e = go (three-ways p q)
-  where
-    go : (p < q) ⊎ ((p ≡ q) ⊎ (q < p)) → p ≡ q
-    go (inl i) = absurd (o .distinct p q i l e)
-    go (inr (inl same)) = same
-    go (inr (inr i)) = absurd (o .distinct q p i h (sym e))
-
 pub at-position : {n : ℕ} {w : List ℕ} → IsOrdering n w (length w) → (p : ℕ) → p < length w → positionOf w (at w p) ≡ p
 at-position {n} {w} o p l =
     let x = placed-stands w (at w p) (placed-in w (length w) (at w p) p l refl) in
-    same-position o (positionOf w (at w p)) p (x .0) l (x .1)
+    same-position n o (positionOf w (at w p)) p (x .0) l (x .1)

@@ -19,7 +19,7 @@ use Rattle.searches.specs.Answer.{isPass, openTests, judgeTests, Accepts, Refus
 use Rattle.searches.proofs.Answers.{accepts-both, both-accept, isPass-in, isPass-out, judge-accepted, passes-accepts}
 use Rattle.searches.proofs.Numbered.{without-both, refuses-earlier, earlier-refuses, at-out, at-in}
 use Rattle.checks.proofs.AfterJudge.{not-judged, unpassed-fails, fails-unpassed, fails-accepts}
-use Rattle.route.specs.WayBack.{testsAfterJudge, wayTests}
+use Rattle.route.specs.WayBack.{testsAfterBfs, wayTests}
 
 module _ (mark : Mark) (rows w : List ℕ) (v room : ℕ) where
   abbrev judged : List (ℕ × Bool)
@@ -35,10 +35,10 @@ module _ (mark : Mark) (rows w : List ℕ) (v room : ℕ) where
   short = ltb room (length rows)
 
   pub judge-stated : (r : ℕ) → r < 10 → Refuses r (wayTests mark rows w v room) ↔ Refuses r judged
-  unfolding wayTests testsAfterJudge
+  unfolding wayTests testsAfterBfs
   judge-stated r l = (
-    refuses-earlier r judged (testsAfterJudge (length rows) w v room passing) (λ e. omega arith, (λ e. omega arith, (λ e. omega arith, tt))),
-    earlier-refuses r judged (testsAfterJudge (length rows) w v room passing),
+    refuses-earlier r judged (testsAfterBfs (length rows) w v room passing) (λ e. omega arith, (λ e. omega arith, (λ e. omega arith, tt))),
+    earlier-refuses r judged (testsAfterBfs (length rows) w v room passing),
   )
 
   -- the kind is that of BFS, which refusal 1 is not for
@@ -49,7 +49,7 @@ module _ (mark : Mark) (rows w : List ℕ) (v room : ℕ) where
       (λ e. omega arith, (λ e. omega arith, (λ e. omega arith, (λ e. omega arith, (λ e. omega arith, (λ e. omega arith, (λ e. omega arith, tt))))))) x .1
 
   pub walk-stated : Refuses 21 (wayTests mark rows w v room) ↔ Fails (judgeAnswer (kindOf bfs) mark rows w)
-  unfolding wayTests testsAfterJudge kindOf searchOf
+  unfolding wayTests testsAfterBfs kindOf searchOf
   walk-stated =
       let later : List (ℕ × Bool) = (22, not stands) ∷ (10, short) ∷ [] in (
         λ x.
@@ -79,7 +79,7 @@ module _ (mark : Mark) (rows w : List ℕ) (v room : ℕ) where
       (λ t. T-not passing t (isPass-in (judge bfs (arcs rows) (length rows) w (length w)) (sym (judge-accepted (kindOf bfs) mark rows w a) ∙ p)), tt)
 
   pub point-stated : Refuses 22 (wayTests mark rows w v room) ↔ ((judgeAnswer (kindOf bfs) mark rows w ≡ passes) × (T stands → ⊥))
-  unfolding openTests judgeTests wayTests testsAfterJudge
+  unfolding openTests judgeTests wayTests testsAfterBfs
   point-stated =
       let later : List (ℕ × Bool) = (10, short) ∷ [] in
       let none = without-both 22 judged ((21, not passing) ∷ []) (not-judged (kindOf bfs) mark rows w 22 (omega arith)) (λ e. omega arith, tt) in (
@@ -88,7 +88,7 @@ module _ (mark : Mark) (rows w : List ℕ) (v room : ℕ) where
       )
 
   pub room-stated : Refuses 10 (wayTests mark rows w v room) ↔ ((judgeAnswer (kindOf bfs) mark rows w ≡ passes) × T stands × (room < length rows))
-  unfolding openTests judgeTests wayTests testsAfterJudge
+  unfolding openTests judgeTests wayTests testsAfterBfs
   room-stated =
       let own : List (ℕ × Bool) = (22, not stands) ∷ [] in
       let none =

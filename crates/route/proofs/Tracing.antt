@@ -25,7 +25,7 @@ use Rattle.searches.proofs.Ordering.{ordering-fits}
 use Rattle.searches.proofs.Refusals.{refuses-first, accepts-none, accepts-or-refuses}
 use Rattle.searches.proofs.Answers.{accepts-both, both-accept, isPass-in, isPass-out, accepted-ordering}
 use Rattle.route.specs.Tree.{depth, pathDown, treePath}
-use Rattle.route.specs.WayBack.{positionOf, wayTo, testsAfterJudge, wayTests, Traceable, points, refused, wayAnswer, wayOutput}
+use Rattle.route.specs.WayBack.{positionOf, wayTo, testsAfterBfs, wayTests, Traceable, points, refused, wayAnswer, wayOutput}
 use Rattle.route.proofs.Tree.{depth-within}
 use Rattle.route.proofs.Standing.{placed-stands}
 use Rattle.route.proofs.Ways.{way-length}
@@ -50,7 +50,7 @@ module _ (mark : Mark) (rows w : List ℕ) (v room : ℕ) where
   -- ---- nothing is refused exactly where every condition holds
 
   pub traceable-out : Accepts (wayTests mark rows w v room) → Traceable mark rows w v room
-  unfolding wayTests testsAfterJudge
+  unfolding wayTests testsAfterBfs
   traceable-out a =
       let x = accepts-both (judgeTests (kindOf bfs) mark rows w) _ a in
       record {
@@ -61,7 +61,7 @@ module _ (mark : Mark) (rows w : List ℕ) (v room : ℕ) where
       }
 
   pub traceable-in : Traceable mark rows w v room → Accepts (wayTests mark rows w v room)
-  unfolding wayTests testsAfterJudge
+  unfolding wayTests testsAfterBfs
   traceable-in able =
       both-accept (judgeTests (kindOf bfs) mark rows w) _ (able .judged) (
         λ t. T-not (isPass verdict) t (isPass-in verdict (able .passing)),

@@ -10,19 +10,20 @@
 -- Assumes nothing.
 use mathlib.Core.Path.{_≡_, refl, sym, ap, _∙_, subst}
 use mathlib.Core.Logic.{_⊎_, inl, inr}
-use mathlib.Core.Bool.{Bool, not}
+use mathlib.Core.Bool.{Bool}
 use mathlib.Core.List.{List}
 use Prim.Native.Nat.{ℕ, zero, suc, _+_, _-_, _≤_, _<_}
 use native.Mathlib.Omega.{arith}
-use lib.Dec.{T, ltb, eqb, lt→ltb, eqb→eq, eqb-refl, not-T, T-not}
+use lib.Dec.{T, eqb, ltb→lt, eqb→eq, eqb-refl}
 use lib.ListN.{length}
-use Rattle.bitset.specs.Below.{anyBelow, firstBelow}
-use Rattle.bitset.proofs.Tests.{and-in, or-inr, decided, below-or, below-suc}
-use Rattle.bitset.proofs.Below.{any-at, first, first-earliest, first-same}
+use Rattle.bitset.proofs.Tests.{decided, below-or, below-suc}
+use Rattle.bitset.proofs.Below.{first, first-earliest, first-same}
 use Rattle.searches.specs.Kind.{bfs}
 use Rattle.searches.specs.Ordering.{at, placed, IsOrdering}
-use Rattle.searches.specs.Label.{label, empty, nearer, outranks}
-use Rattle.searches.proofs.Ordering.{Agree, placed-out}
+use Rattle.searches.specs.Label.{label, outranks}
+use Rattle.searches.specs.Violation.{condition}
+use Rattle.searches.proofs.Reason.{reason→outranks}
+use Rattle.searches.proofs.Ordering.{Agree, placed-more, ordering-unplaced}
 use Rattle.searches.proofs.Run.{Greedy, offered-out}
 use Rattle.route.specs.Tree.{parent, isRoot, ancestor, depth, root, pathDown, treePath}
 
@@ -166,26 +167,24 @@ module _ (arc : ℕ → ℕ → Bool) (k : ℕ) (w w′ : List ℕ) (a : Agree k
 
 -- ---- BFS
 
--- Of two vertices the later one has the later parent, or the same: else it would have been ahead when the earlier one was placed. A vertex without
--- a parent counts as its own, so nothing placed before a new piece's first vertex leads to a vertex placed after it.
+-- Of two vertices the later one has the later parent, or the same: else its parent would be a reason why it was ahead when the earlier one was placed.
+-- A vertex without a parent counts as its own, so nothing placed before a new piece's first vertex leads to a vertex placed after it.
 module _ (arc : ℕ → ℕ → Bool) (n : ℕ) (w : List ℕ) (k : ℕ) (o : IsOrdering n w k) (g : Greedy bfs arc n w k) where
   pub parent-monotone : (a b : ℕ) → a ≤ b → b < k → parent arc w a ≤ parent arc w b
-  unfolding outranks nearer empty parent label
+  unfolding condition label
   parent-monotone a b l h = go (below-or (parent arc w b) (parent arc w a))
     where
       unplaced : T (placed w a (at w b)) → ⊥
-      unplaced t = let s = placed-out w a (at w b) t in o .distinct (s .0) b (omega (arith, s .1)) h (s .2)
+      unplaced t = ordering-unplaced n o b h (placed-more w a b (at w b) l t)
 
       ahead : parent arc w b < parent arc w a → T (outranks bfs a (label arc w (at w b)) (label arc w (at w a)))
-      ahead earlier =
-          let later = label arc w (at w b) in
-          let here = label arc w (at w a) in
-          let led : T (later (parent arc w b)) = parent-leads arc w b (omega (arith, parent-within arc w a)) in
-          let below : parent arc w b < a = omega (arith, parent-within arc w a) in
-          and-in (not (empty a later)) _
-          (not-T (empty a later) (λ t. T-not (anyBelow a later) t (any-at a later (parent arc w b) below led)))
-          (or-inr (empty a here) (ltb (firstBelow a later) (firstBelow a here))
-          (lt→ltb (firstBelow a later) (firstBelow a here) (omega (arith, earlier, first-earliest a later (parent arc w b) led))))
+      ahead earlier = reason→outranks a (label arc w (at w b)) (label arc w (at w a)) bfs (record {
+        position = parent arc w b;
+        below = omega (arith, parent-within arc w a);
+        ours = parent-leads arc w b (omega (arith, parent-within arc w a));
+        theirs = λ t. omega (arith, earlier, parent-earliest arc w (parent arc w b) a t);
+        unexcused = λ d i t before. omega (arith, earlier, parent-earliest arc w d a t, ltb→lt d (parent arc w b) before);
+      })
 
       go : (parent arc w b < parent arc w a) ⊎ (parent arc w a ≤ parent arc w b) → parent arc w a ≤ parent arc w b
       go (inl earlier) =

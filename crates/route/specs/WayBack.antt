@@ -2,7 +2,7 @@
 --   positionOf w v                  the position at which v stands in w; the length of w where it stands nowhere
 --   wayTo arc w v                   the way: the vertices from the one without a parent to v                         [02: K5]
 --   ShortestWay arc n w v x         x is a way over links to v, a shortest one from its first point, which has no parent  [02: K5, proved]
---   testsAfterJudge n w v room passing   what is refused after judge's tests: numbers and tests in 02's order; the output list has room bytes
+--   testsAfterBfs n w v room passing   what is refused after judge's tests: numbers and tests in 02's order; the output list has room bytes
 --   wayTests mark rows w v room     all tests: judge's own for BFS, then these
 --   Traceable mark rows w v room    what is not refused, condition by condition
 --   Way                             points m: so many are written; refused r: the refusal with number r
@@ -44,8 +44,8 @@ pub record ShortestWay (arc : ℕ → ℕ → Bool) (n : ℕ) (w : List ℕ) (v 
   -- and no way over links from its first point to v, through any points of the plan, has fewer links
   pub none-shorter : (y : List ℕ) → IsPath arc n (at x 0) v y → arcCount x ≤ arcCount y
 
-unfoldable pub testsAfterJudge : ℕ → List ℕ → ℕ → ℕ → Bool → List (ℕ × Bool)
-testsAfterJudge n w v room passing =
+unfoldable pub testsAfterBfs : ℕ → List ℕ → ℕ → ℕ → Bool → List (ℕ × Bool)
+testsAfterBfs n w v room passing =
     (21, not passing)
     ∷ (22, not (placed w (length w) v))
     ∷ (10, ltb room n)
@@ -54,7 +54,7 @@ testsAfterJudge n w v room passing =
 unfoldable pub wayTests : Mark → List ℕ → List ℕ → ℕ → ℕ → List (ℕ × Bool)
 wayTests mark rows w v room =
     judgeTests (kindOf bfs) mark rows w
-    ++ testsAfterJudge (length rows) w v room (isPass (judge bfs (arcs rows) (length rows) w (length w)))
+    ++ testsAfterBfs (length rows) w v room (isPass (judge bfs (arcs rows) (length rows) w (length w)))
 
 pub record Traceable (mark : Mark) (rows w : List ℕ) (v room : ℕ) : Type 0 where
   -- judge refuses nothing

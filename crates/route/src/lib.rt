@@ -16,7 +16,7 @@ ghost use lib.ListN.{length, drop};
 ghost use Rattle.searches.specs.Ordering.{arcs};
 ghost use Rattle.searches.specs.Answer.{firstRefusal, refusalOf};
 ghost use Rattle.route.specs.Tree.{parent as parentOf, depth as depthOf, pathDown};
-ghost use Rattle.route.specs.WayBack.{positionOf, testsAfterJudge, wayTests, wayAnswer, wayOutput, wayOf};
+ghost use Rattle.route.specs.WayBack.{positionOf, testsAfterBfs, wayTests, wayAnswer, wayOutput, wayOf};
 
 // What asking for the way back answers: how many points were written, or why none were.
 pub enum WayBack {
@@ -55,21 +55,21 @@ fn way_refusal(mark: Mark, rows: &[u64], ordering: &[u8], vertex: Vertex, room: 
     let n = rows.len();
     let judged = engine::judge(Kind::BFS, mark, rows, ordering);
     match judged {
-        Judgement::Passes => refusal_after_judge(n, ordering, vertex, room, true),
-        Judgement::Fails(_) => refusal_after_judge(n, ordering, vertex, room, false),
+        Judgement::Passes => refusal_after_bfs(n, ordering, vertex, room, true),
+        Judgement::Fails(_) => refusal_after_bfs(n, ordering, vertex, room, false),
         Judgement::Refused(refusal) => Outcome::Refused(refusal),
     }
 }
 
 // The first of refusals 21, 22 and 10 that applies to an ordering of a graph of `n` vertices that judge did not refuse, else `Done`.
-fn refusal_after_judge(
+fn refusal_after_bfs(
     n: usize,
     ordering: &[u8],
     vertex: Vertex,
     room: usize,
     passing: bool,
 ) -> Outcome
-    ensures { λ r. ⌜ refusalOf r ≡ firstRefusal (testsAfterJudge n (now (ordering .entry)) (vertex .0) room passing) ⌝ }
+    ensures { λ r. ⌜ refusalOf r ≡ firstRefusal (testsAfterBfs n (now (ordering .entry)) (vertex .0) room passing) ⌝ }
 {
     let position = position_of(ordering, vertex);
     let short = room < n;

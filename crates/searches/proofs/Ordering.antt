@@ -2,7 +2,7 @@
 --   placed-in, placed-out        placed: the vertex stands at some position
 --   Agree k w w′                 the two lists hold the same vertices at their first k positions
 --   placed-agree, ordering-agree, begins-agree, agree-begins
---   ordering-prefix, ordering-grown
+--   ordering-prefix, ordering-unplaced, same-position
 --   upTo, upTo-full              0, 1, .., n - 1 is a full ordering
 --   some-unplaced, all-placed    fewer than n positions leave a vertex unplaced, n leave none
 -- Assumes nothing.
@@ -17,7 +17,7 @@ use lib.Dec.{T, eqb, eqb→eq, eqb-refl}
 use lib.ListN.{length, take, length-append, length-take, List·getD-append}
 use lib.Seq.{length-take-le, getD-take, getD-append-seam, ext-getD}
 use Rattle.bitset.specs.Below.{anyBelow, countBelow}
-use Rattle.bitset.proofs.Tests.{below-suc}
+use Rattle.bitset.proofs.Tests.{below-suc, three-ways}
 use Rattle.bitset.proofs.Below.{Some, any-out, any-at, any-same}
 use Rattle.bitset.proofs.Count.{count-none, count-le, count-missing, count-all, count-added}
 use Rattle.searches.specs.Ordering.{at, placed, IsOrdering, IsFullOrdering, Begins}
@@ -84,6 +84,15 @@ module _ (n : ℕ) where
 
   pub ordering-unplaced : {w : List ℕ} {k : ℕ} → IsOrdering n w k → (j : ℕ) → j < k → T (placed w j (at w j)) → ⊥
   ordering-unplaced {w} o j l t = let s = placed-out w j (at w j) t in o .distinct (s .0) j (s .1) l (s .2)
+
+  -- distinct vertices: where the same one stands, the position is the same
+  pub same-position : {w : List ℕ} {k : ℕ} → IsOrdering n w k → (p q : ℕ) → p < k → q < k → at w p ≡ at w q → p ≡ q
+  same-position o p q h l e = go (three-ways p q)
+    where
+      go : (p < q) ⊎ ((p ≡ q) ⊎ (q < p)) → p ≡ q
+      go (inl i) = absurd (o .distinct p q i l e)
+      go (inr (inl same)) = same
+      go (inr (inr i)) = absurd (o .distinct q p i h (sym e))
 
   placed-count : (w : List ℕ) (k : ℕ) → IsOrdering n w k → countBelow n (placed w k) ≡ k
   unfolding placed anyBelow

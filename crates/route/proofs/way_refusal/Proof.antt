@@ -10,7 +10,7 @@ use Rattle.searches.specs.Kind.{bfs, kindOf, searchOf}
 use Rattle.searches.specs.Violation.{passes, fails}
 use Rattle.searches.specs.Answer.{isPass, refusalOf, verdictOf}
 use Rattle.checks.proofs.AfterJudge.{judged-refused, judged-decided}
-use Rattle.route.specs.WayBack.{testsAfterJudge, wayTests}
+use Rattle.route.specs.WayBack.{testsAfterBfs, wayTests}
 use Rattle.route.proofs.way_refusal.Statement.{statement}
 use Rattle.route.proofs.way_refusal.Tie as tie
 
@@ -20,14 +20,14 @@ judge-requires c κs = search needs
 enum-told : tie.Need-enum-told
 enum-told c = search needs
 
-refusal-after-judge-requires : tie.Need-refusal-after-judge-requires
-refusal-after-judge-requires c κs = search needs
+refusal-after-bfs-requires : tie.Need-refusal-after-bfs-requires
+refusal-after-bfs-requires c κs = search needs
 
 enum-told-2 : tie.Need-enum-told-2
 enum-told-2 c = search needs
 
-refusal-after-judge-requires-2 : tie.Need-refusal-after-judge-requires-2
-refusal-after-judge-requires-2 c κs = search needs
+refusal-after-bfs-requires-2 : tie.Need-refusal-after-bfs-requires-2
+refusal-after-bfs-requires-2 c κs = search needs
 
 enum-known-judged : tie.Need-enum-known-judged
 enum-known-judged c = search needs
@@ -36,8 +36,8 @@ returns : tie.Need-returns
 unfolding verdictOf isPass wayTests kindOf searchOf
 returns c =
     let a = c .before .before .before .before .before .before .args in
-    c .refusal-after-judge .ensures
-    ∙ judged-decided (kindOf bfs) (a .mark) (now (a .rows)) (now (a .ordering)) (testsAfterJudge (length (now (a .rows))) (now (a .ordering)) (a .vertex .0) (a .room)) {v = passes}
+    c .refusal-after-bfs .ensures
+    ∙ judged-decided (kindOf bfs) (a .mark) (now (a .rows)) (now (a .ordering)) (testsAfterBfs (length (now (a .rows))) (now (a .ordering)) (a .vertex .0) (a .room)) {v = passes}
     (sym (ap verdictOf (c .before .enum-told .given .1)) ∙ c .before .before .before .judge .ensures)
     (λ r e. let clash : _≡_ {A = ℕ} 0 1 = cc in omega arith)
 
@@ -45,8 +45,8 @@ returns-2 : tie.Need-returns-2
 unfolding verdictOf isPass wayTests kindOf searchOf
 returns-2 c =
     let a = c .before .before .before .before .before .before .args in
-    c .refusal-after-judge2 .ensures
-    ∙ judged-decided (kindOf bfs) (a .mark) (now (a .rows)) (now (a .ordering)) (testsAfterJudge (length (now (a .rows))) (now (a .ordering)) (a .vertex .0) (a .room)) {v = fails _ _ _}
+    c .refusal-after-bfs2 .ensures
+    ∙ judged-decided (kindOf bfs) (a .mark) (now (a .rows)) (now (a .ordering)) (testsAfterBfs (length (now (a .rows))) (now (a .ordering)) (a .vertex .0) (a .room)) {v = fails _ _ _}
     (sym (ap verdictOf (c .before .enum-told2 .given .1)) ∙ c .before .before .before .judge .ensures)
     (λ r e. let clash : _≡_ {A = ℕ} 0 1 = cc in omega arith)
 
@@ -54,7 +54,7 @@ returns-3 : tie.Need-returns-3
 unfolding verdictOf refusalOf wayTests kindOf searchOf
 returns-3 c =
     let a = c .before .before .before .before .before .before .args in
-    judged-refused (kindOf bfs) (a .mark) (now (a .rows)) (now (a .ordering)) (testsAfterJudge (length (now (a .rows))) (now (a .ordering)) (a .vertex .0) (a .room)) _
+    judged-refused (kindOf bfs) (a .mark) (now (a .rows)) (now (a .ordering)) (testsAfterBfs (length (now (a .rows))) (now (a .ordering)) (a .vertex .0) (a .room)) _
     (sym (ap verdictOf (c .before .judged .given .1)) ∙ c .before .before .before .judge .ensures)
 
 pub way-refusal-spec : {M : Type 1} → statement M
@@ -63,9 +63,9 @@ way-refusal-spec =
     (tie.spec
     judge-requires
     enum-told
-    refusal-after-judge-requires
+    refusal-after-bfs-requires
     enum-told-2
-    refusal-after-judge-requires-2
+    refusal-after-bfs-requires-2
     enum-known-judged
     returns
     returns-2
