@@ -1,5 +1,5 @@
-//! The definitions of 01, and of MCS, the charge, one-way plans and the way back from 02, computed as they read, by
-//! trying everything.
+//! The definitions of 01, and of MCS, the charge, one-way plans, the way back and the comparison from 02, computed as
+//! they read, by trying everything.
 //!
 //!   Mark                        whether the links of a plan have a direction       [02: K4]
 //!   Graph                       a plan: one row of 64 bits for each point          [01: plan]
@@ -14,6 +14,7 @@
 //!   sheet                       the sheet: written, read and judged
 //!   charge                      what a walk is charged                             [02: K2]
 //!   way_back                    the way back from a point of a BFS walk            [02: K5]
+//!   stance                      how one of two unplaced points stands to the other [02: K6]
 
 /// A point's number.
 pub type Vertex = usize;
@@ -248,6 +249,7 @@ pub fn carry_on(
 pub mod charge;
 pub mod open_walk;
 pub mod sheet;
+pub mod stance;
 mod violation;
 pub mod way_back;
 

@@ -1,6 +1,6 @@
 -- Two sets compared: where they differ, and when one lies in the other.
 --   differ-in, differ-other    differ: a number is in just one of the two;   differ-out, differ-one   and then in which
---   differ-same                where they do not differ
+--   differ-same                where they do not differ;   differ-comm   the two turned round
 --   within-in, within-out, not-within      within: what is in the one is in the other
 -- Assumes nothing.
 use mathlib.Core.Path.{_≡_, refl}
@@ -58,6 +58,16 @@ module _ (f g : ℕ → Bool) where
       go true false e = absurd (e tt)
       go false true e = absurd (e tt)
       go false false e = refl
+
+pub differ-comm : (f g : ℕ → Bool) (p : ℕ) → differ f g p ≡ differ g f p
+unfolding differ
+differ-comm f g p = go (f p) (g p)
+  where
+    go : (x y : Bool) → not (Bool·beq x y) ≡ not (Bool·beq y x)
+    go true true = refl
+    go true false = refl
+    go false true = refl
+    go false false = refl
 
 module _ (n : ℕ) (f g : ℕ → Bool) where
   pub within-in : ((p : ℕ) → p < n → T (f p) → T (g p)) → T (within n f g)

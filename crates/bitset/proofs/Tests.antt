@@ -1,5 +1,5 @@
 -- Tests and what they say: a test that is true is a fact.
---   and-in, and-out, or-inl, or-inr, or-out    a test of two tests
+--   and-in, and-out, or-inl, or-inr, or-out    a test of two tests;   or-false   what it says where it fails
 --   not-not b                                  a test that does not fail holds
 --   decided b                                  a test holds or does not
 --   same-test                                  two tests that follow from each other are equal
@@ -36,6 +36,11 @@ or-inr false b q = q
 pub or-out : (a b : Bool) → T (a || b) → T a ⊎ T b
 or-out true b p = inl tt
 or-out false b p = inr p
+
+pub or-false : (a b : Bool) → (a || b) ≡ false → (a ≡ false) × (b ≡ false)
+or-false true true e = (e, e)
+or-false true false e = (e, refl)
+or-false false b e = (refl, e)
 
 pub and-true : (b : Bool) → b ≡ (b && true)
 and-true true = refl

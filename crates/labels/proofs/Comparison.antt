@@ -2,6 +2,8 @@
 --   empty-word                              a word has no member exactly when it is 0
 --   lexBfs-words, lexDfs-words, mns-words, generic-words   what the code computes is what aheadIn says
 --   bfs-words                               BFS by the first positions, which Extremes takes from the running values; DFS is there, MCS in Profiles
+--   lexBfs-behind                           LexBFS with the two turned round, by the position that was found
+--   ranked-words, mns-compared, ahead-answered   what is told of these tests is what comparedIn says, and what that says of who is ahead
 --   unexcused-*                             likewise for unexcusedIn
 --   of-kind, searchOf-other, searchOf-mns   from a kind byte to its search
 -- Assumes nothing.
@@ -14,14 +16,16 @@ use lib.Dec.{T, ltb, leb, eqb, ltb→lt, lt→ltb, leb→le, le→leb, eqb→eq,
 use Rattle.bitset.specs.Below.{anyBelow, firstBelow, lastBelow, differ, within}
 use Rattle.bitset.specs.Word.{member, difference, fromUp}
 use Rattle.bitset.proofs.Tests.{and-in, and-out, and-true, decided, same-test, is-true, is-false, three-ways, below-or}
-use Rattle.bitset.proofs.Below.{any-out, any-at, any-same, first, first-earliest}
-use Rattle.bitset.proofs.Sets.{within-in, within-out}
+use Rattle.bitset.proofs.Below.{any-out, any-at, any-same, first, first-earliest, first-same}
+use Rattle.bitset.proofs.Sets.{differ-comm, within-in, within-out}
 use Rattle.bitset.proofs.Word as word
 use Rattle.searches.specs.Kind.{Search, generic, bfs, dfs, lexBfs, lexDfs, mns, mcs, searchOf}
 use Rattle.searches.specs.Label.{empty, settled, outranks}
+use Rattle.searches.specs.Comparison.{toldBy, isAhead}
 use Rattle.searches.specs.Violation.{condition, meets}
 use Rattle.searches.proofs.Reason.{Reason, outranks→reason, reason→outranks}
-use Rattle.labels.specs.Words.{aheadIn, unexcusedIn}
+use Rattle.searches.proofs.Comparing.{alike-within, ahead-told, compared-mns, compared-ranked}
+use Rattle.labels.specs.Words.{aheadIn, comparedIn, unexcusedIn}
 
 -- ---- words as sets
 
@@ -105,6 +109,41 @@ module _ (c b : ℕ) where
   pub generic-words : c < 2 ^ 64 → b < 2 ^ 64 → (not (eqb c 0) && eqb b 0) ≡ aheadIn generic c b
   unfolding aheadIn outranks
   generic-words hc hb = ap₂ (λ (x y : Bool). not x && y) (sym (empty-word c hc)) (sym (empty-word b hb))
+
+-- the position that tells whether c is ahead tells whether b is
+pub lexBfs-behind : (c b : ℕ) → b < 2 ^ 64 → member b (firstBelow 64 (differ (member c) (member b))) ≡ aheadIn lexBfs b c
+lexBfs-behind c b h =
+    ap (λ (p : ℕ). member b p) (first-same 64 (differ (member c) (member b)) (differ (member b) (member c)) (λ p _. differ-comm (member c) (member b) p))
+    ∙ lexBfs-words b c h
+
+-- ---- how the one stands to the other
+
+-- who is ahead tells it, except in MNS
+pub ranked-words : (s : Search) → s ≢ mns → (c b : ℕ) {ahead behind : Bool} → ahead ≡ aheadIn s c b → behind ≡ aheadIn s b c
+    → toldBy ahead behind true ≡ comparedIn s c b
+unfolding comparedIn aheadIn
+ranked-words s other c b is is′ = ap₂ (λ (x y : Bool). toldBy x y true) is is′ ∙ compared-ranked s 64 (member c) (member b) other
+
+both : (x y : Bool) → toldBy (x && not y) (y && not x) x ≡ toldBy (x && not y) (y && not x) (x && y)
+unfolding toldBy
+both true true = refl
+both true false = refl
+both false true = refl
+both false false = refl
+
+-- in MNS two inclusions do: where none is ahead, each holds or none does
+pub mns-compared : (c b : ℕ) {covers covered : Bool} → covers ≡ within 64 (member b) (member c) → covered ≡ within 64 (member c) (member b)
+    → toldBy (covers && not covered) (covered && not covers) covers ≡ comparedIn mns c b
+unfolding comparedIn aheadIn
+mns-compared c b {covers} {covered} is is′ =
+    both covers covered ∙ ap₂ (λ (x y : Bool). toldBy (x && not y) (y && not x) (x && y)) is is′
+    ∙ ap₂ (λ (x y : Bool). toldBy x y (within 64 (member b) (member c) && within 64 (member c) (member b))) (mns-words c b) (mns-words b c)
+    ∙ ap (toldBy (aheadIn mns c b) (aheadIn mns b c)) (alike-within 64 (member c) (member b)) ∙ compared-mns 64 (member c) (member b)
+
+-- the answer that the first is ahead
+pub ahead-answered : (s : Search) (c b : ℕ) → isAhead (comparedIn s c b) ≡ aheadIn s c b
+unfolding comparedIn aheadIn
+ahead-answered s c b = ahead-told s 64 (member c) (member b)
 
 -- ---- the kind byte
 

@@ -44,8 +44,7 @@ module _ (s : Search) (e : s ≡ mcs) (c b : Profile) (of-c : c ≡ profileOf s 
       ap₂ (λ (x y : ℕ). ltb x y) (count-of s b of-b) (count-of s c of-c)
       ∙ subst (λ (k : Search). ltb (countIn k (b .label)) (countIn k (c .label)) ≡ aheadIn k (c .label) (b .label)) (sym e) refl
 
-  pub unexcused-mcs : (i : ℕ) → ltb (b .count) (c .count) ≡ unexcusedIn s i (c .label) (b .label)
-  unfolding unexcusedIn condition meets countIn
-  unexcused-mcs i =
-      ap₂ (λ (x y : ℕ). ltb x y) (count-of s b of-b) (count-of s c of-c)
-      ∙ subst (λ (k : Search). ltb (countIn k (b .label)) (countIn k (c .label)) ≡ unexcusedIn k i (c .label) (b .label)) (sym e) refl
+-- what is asked besides is that c is ahead
+pub unexcused-mcs : (s : Search) → s ≡ mcs → (i c b : ℕ) → aheadIn s c b ≡ unexcusedIn s i c b
+unfolding aheadIn outranks unexcusedIn condition meets
+unexcused-mcs s e i c b = subst (λ (k : Search). aheadIn k c b ≡ unexcusedIn k i c b) (sym e) refl

@@ -11,6 +11,7 @@
 --   countIn s label               how many positions a label holds, for MCS; 0 for the other searches, which do not count
 --   profileOf s label             what a comparison looks at, of a vertex with this label
 --   aheadIn s c b                 label c is ahead of label b
+--   comparedIn s c b              how label c stands to label b
 --   unexcusedIn s i c b           nothing in b's label, nor its size, excuses position i against c's
 --   labelWith p x                 the label x, with p put in
 --   smallestWith, largestWith p x   the byte x of a smallest or largest position, once p is put into the label
@@ -37,7 +38,9 @@ use Rattle.searches.specs.Kind.{Search, generic, bfs, dfs, lexBfs, lexDfs, mns,
 use Rattle.searches.specs.Ordering.{at}
 use Rattle.searches.specs.Label.{outranks}
 use Rattle.searches.specs.Running.{smallestIn, largestIn}
+use Rattle.searches.specs.Comparison.{compared}
 use Rattle.searches.specs.Violation.{condition, meets}
+use Rattle.searches.specs.declared.Comparison.{Comparison}
 use Rattle.labels.specs.declared.profile.Profile.{Profile}
 
 unfoldable pub tally : List ℕ → ℕ → ℕ → ℕ
@@ -82,6 +85,9 @@ profileOf s label = record {
 
 unfoldable pub aheadIn : Search → ℕ → ℕ → Bool
 aheadIn s c b = outranks s 64 (member c) (member b)
+
+unfoldable pub comparedIn : Search → ℕ → ℕ → Comparison
+comparedIn s c b = compared s 64 (member c) (member b)
 
 unfoldable pub unexcusedIn : Search → ℕ → ℕ → ℕ → Bool
 unexcusedIn s i c b = meets (condition s i) 64 (member c) (member b)

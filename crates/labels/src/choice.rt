@@ -33,7 +33,7 @@ fn champion(
     while rest != 0 {
         let u = Vertex(bitset::smallest(rest) as u8);
         let next = profile_of(kind, columns, labels, smallest, largest, placed, u);
-        if crate::is_ahead(kind, next, lead) {
+        if crate::tells_ahead(crate::compare(kind, next, lead)) {
             best = u;
             lead = next;
         }
@@ -67,11 +67,8 @@ fn is_open(
         return true;
     }
     let mine = profile_of(kind, columns, labels, smallest, largest, placed, v);
-    if crate::is_ahead(
-        kind,
-        profile_of(kind, columns, labels, smallest, largest, placed, best),
-        mine,
-    ) {
+    let lead = profile_of(kind, columns, labels, smallest, largest, placed, best);
+    if crate::tells_ahead(crate::compare(kind, lead, mine)) {
         return false;
     }
     if kind.0 != Kind::MNS.0 {

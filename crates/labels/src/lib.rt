@@ -7,43 +7,89 @@ pub mod profile;
 
 use crate::profile::Profile;
 use crate::profile::profile_of;
+use searches::Comparison;
 use searches::Kind;
 use searches::Position;
 use searches::Vertex;
 ghost use mathlib.Core.Path.{_≡_};
 ghost use Prim.Native.Nat.{_<_};
 ghost use Rattle.searches.specs.Kind.{searchOf};
-ghost use Rattle.labels.specs.Words.{Consistent, profileOf, aheadIn, unexcusedIn, spreadTo, smallestWith, smallestTo, largestTo, beatenIn};
+ghost use Rattle.searches.specs.Comparison.{toldBy, isAhead};
+ghost use Rattle.labels.specs.Words.{Consistent, profileOf, comparedIn, unexcusedIn, spreadTo, smallestWith, smallestTo, largestTo, beatenIn};
 
-// Whether a vertex of profile `c` is ahead of one of profile `b`. MNS is tested first, then the kinds below LexBFS, then the others, so Generic
-// stands twice: the compiler splits a loop that calls this into one for each of several kinds, and into fewer where all seven tests stand in a row.
-pub fn is_ahead(kind: Kind, c: Profile, b: Profile) -> bool
+// The answer of three tests: the first that holds, and where none does, neither.
+fn told_by(ahead: bool, behind: bool, level: bool) -> Comparison
+    ensures { λ r. ⌜ r ≡ toldBy ahead behind level ⌝ }
+{
+    if ahead {
+        return Comparison::Ahead;
+    }
+    if behind {
+        return Comparison::Behind;
+    }
+    if level {
+        return Comparison::Level;
+    }
+    Comparison::Neither
+}
+
+// How a vertex of profile `c` stands to one of profile `b`: in MNS by two inclusions, in the other searches by who is ahead. MNS is tested first,
+// then the kinds below LexBFS, then the others: the compiler splits a loop that calls this into one for each of several kinds, and into fewer where
+// all seven tests stand in a row.
+pub fn compare(kind: Kind, c: Profile, b: Profile) -> Comparison
     requires { ⌜ (c ≡ profileOf (searchOf (kind .0)) (c .label)) × (b ≡ profileOf (searchOf (kind .0)) (b .label)) ⌝ }
-    ensures { λ r. ⌜ r ≡ aheadIn (searchOf (kind .0)) (c .label) (b .label) ⌝ }
+    ensures { λ r. ⌜ r ≡ comparedIn (searchOf (kind .0)) (c .label) (b .label) ⌝ }
 {
     let search = kind.0;
     if search == Kind::MNS.0 {
-        return bitset::subset(b.label, c.label) & !bitset::subset(c.label, b.label);
+        let covers = bitset::subset(b.label, c.label);
+        let covered = bitset::subset(c.label, b.label);
+        return told_by(covers & !covered, covered & !covers, covers);
     }
     if search < Kind::LEX_BFS.0 {
         if search == Kind::BFS.0 {
-            return c.smallest < b.smallest;
+            return told_by(c.smallest < b.smallest, b.smallest < c.smallest, true);
         }
         if search == Kind::DFS.0 {
-            return b.largest < c.largest;
+            return told_by(b.largest < c.largest, c.largest < b.largest, true);
         }
-        return (c.label != 0) & (b.label == 0);
+    } else {
+        if search == Kind::LEX_BFS.0 {
+            let p = bitset::lowest_difference(c.label, b.label);
+            return told_by(
+                bitset::contains(c.label, p),
+                bitset::contains(b.label, p),
+                true,
+            );
+        }
+        if search == Kind::LEX_DFS.0 {
+            return told_by(
+                bitset::above(c.label, b.label),
+                bitset::above(b.label, c.label),
+                true,
+            );
+        }
+        if search == Kind::MCS.0 {
+            return told_by(b.count < c.count, c.count < b.count, true);
+        }
     }
-    if search == Kind::LEX_BFS.0 {
-        return bitset::contains(c.label, bitset::lowest_difference(c.label, b.label));
+    told_by(
+        (c.label != 0) & (b.label == 0),
+        (b.label != 0) & (c.label == 0),
+        true,
+    )
+}
+
+// Whether the answer is that the first is ahead.
+fn tells_ahead(answer: Comparison) -> bool
+    ensures { λ r. ⌜ r ≡ isAhead answer ⌝ }
+{
+    match answer {
+        Comparison::Ahead => true,
+        Comparison::Behind => false,
+        Comparison::Level => false,
+        Comparison::Neither => false,
     }
-    if search == Kind::LEX_DFS.0 {
-        return bitset::above(c.label, b.label);
-    }
-    if search == Kind::MCS.0 {
-        return b.count < c.count;
-    }
-    (c.label != 0) & (b.label == 0)
 }
 
 // Whether nothing excuses that a vertex of profile `b` came before one of profile `c`, with `position` in the label of `c` and not of `b`.
@@ -69,7 +115,7 @@ pub fn is_unexcused(kind: Kind, position: Position, c: Profile, b: Profile) -> b
         return bitset::subset(b.label, c.label);
     }
     if search == Kind::MCS.0 {
-        return c.count > b.count;
+        return tells_ahead(compare(kind, c, b));
     }
     b.label == 0
 }
@@ -129,11 +175,8 @@ pub fn is_beaten(
     let mut rest = free;
     while rest != 0 {
         let u = bitset::smallest(rest) as u8;
-        if is_ahead(
-            kind,
-            profile_of(kind, columns, labels, smallest, largest, placed, Vertex(u)),
-            mine,
-        ) {
+        let next = profile_of(kind, columns, labels, smallest, largest, placed, Vertex(u));
+        if tells_ahead(compare(kind, next, mine)) {
             return true;
         }
         rest = bitset::without_smallest(rest);

@@ -237,7 +237,7 @@ module _ {excuses : ℕ → ℕ → Bool → Bool} (s : Sided excuses) where
 
 module _ (before : ℕ → ℕ → Bool) (pick : ℕ → (ℕ → Bool) → ℕ) (e : End before pick) (k : ℕ) (c a : ℕ → Bool) where
   -- the first position in which they differ settles it
-  settled-connected : T (anyBelow k (differ c a)) → Reason (λ i. noneExcuses (λ d inC. before d i && not inC)) k c a ⊎ Reason (λ i. noneExcuses (λ d inC. before d i && not inC)) k a c
+  pub settled-connected : T (anyBelow k (differ c a)) → Reason (λ i. noneExcuses (λ d inC. before d i && not inC)) k c a ⊎ Reason (λ i. noneExcuses (λ d inC. before d i && not inC)) k a c
   settled-connected t = go (decided (c i))
     where
       some : Some k (differ c a)

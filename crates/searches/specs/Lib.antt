@@ -2,6 +2,7 @@ pub mod Kind
 pub mod Ordering
 pub mod Label
 pub mod Running
+pub mod Comparison
 pub mod Run
 pub mod Violation
 pub mod CarryOn

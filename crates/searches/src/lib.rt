@@ -42,6 +42,14 @@ pub struct Violation {
     pub c: Vertex,
 }
 
+// How one of two unplaced vertices stands to the other, by their labels (02: K6).
+pub enum Comparison {
+    Ahead,
+    Behind,
+    Level,
+    Neither,
+}
+
 // Why a call is refused. The comment of each is its number in 01; from 18 on, in 02.
 pub enum Refusal {
     // 1

@@ -1,12 +1,12 @@
 -- The words hold the labels and the unplaced vertices of searches/, and what is computed on them is what is defined there.
 --   suc-split                                the positions below one more
---   cut-same, cut-below                      a set that ends at a bound;   meets-cut, outranks-cut   it is compared below it
+--   cut-same, cut-below                      a set that ends at a bound;   meets-cut, outranks-cut, compared-cut   it is compared below it
 --   kept-length                              keptAfter: 64 values;   kept-start, kept-next, kept-beyond   vertex by vertex
 --   member-joined                            what is in a label that a position may join
 --   label-members                            labelsAfter: words which hold the labels
 --   free-word, free-members                  freeAfter: a word, which holds the unplaced vertices;   free-unplaced, free-vertex
 --   after-covers, reached-covers             reachedAfter: nobody else has a position in its label
---   ahead-same, beaten-same, open-offered    who is ahead, who is beaten, who is offered
+--   ahead-same, compared-same                who is ahead, and how two stand to each other;   beaten-same, open-offered   who is beaten, who is offered
 -- Assumes nothing.
 use mathlib.Core.Path.{_≡_, refl, sym, ap, ap₂, _∙_, subst}
 use mathlib.Core.Bool.{Bool, true, false, cond, not, _&&_, _||_}
@@ -22,14 +22,16 @@ use Rattle.bitset.proofs.Tests.{and-same, and-in, and-out, and-true, or-inl, or
 use Rattle.bitset.proofs.Below.{any-fewer}
 use Rattle.bitset.proofs.Count.{count-fewer}
 use Rattle.bitset.proofs.Word as word
-use Rattle.searches.specs.Kind.{Search}
+use Rattle.searches.specs.Kind.{Search, mns}
 use Rattle.searches.specs.Ordering.{arcs, at, placed, IsOrdering}
 use Rattle.searches.specs.Label.{label, outranks}
+use Rattle.searches.specs.Comparison.{alike, toldBy, compared}
 use Rattle.searches.specs.Run.{offered}
 use Rattle.searches.specs.Violation.{Condition, noneExcuses, counted, condition, meets}
 use Rattle.searches.proofs.Reason.{Reason, meets-in, meets-out, outranks→reason, reason→outranks}
 use Rattle.searches.proofs.Ordering.{ordering-fits}
-use Rattle.labels.specs.Words.{aheadIn, labelWith, changedBy, joinedIn, beatenIn, openIn, Covers}
+use Rattle.searches.proofs.Comparing.{alike-in, alike-out, except-mns, compared-mns, compared-ranked}
+use Rattle.labels.specs.Words.{aheadIn, comparedIn, labelWith, changedBy, joinedIn, beatenIn, openIn, Covers}
 use Rattle.labels.proofs.Spreading.{spread-above, spread-length, spread-at}
 use Rattle.labels.proofs.Reached.{covers-spread}
 use Rattle.steps.specs.Steps.{keptAfter, labelsAfter, freeAfter, reachedAfter}
@@ -111,6 +113,30 @@ module _ (j m : ℕ) (c b c′ b′ : ℕ → Bool) (l : j ≤ m) (c-cut : (p : 
             let own = condition s (r .position) in
             meets-out m c b own (subst (λ (x : Bool). T x) (sym (meets-cut own)) (meets-in j c′ b′ own (r .unexcused)));
       }
+
+-- how the one stands to the other takes them both ways round
+module _ (j m : ℕ) (c b c′ b′ : ℕ → Bool) (l : j ≤ m) (c-cut : (p : ℕ) → c p ≡ (ltb p j && c′ p)) (b-cut : (p : ℕ) → b p ≡ (ltb p j && b′ p)) where
+  alike-cut : alike m c b ≡ alike j c′ b′
+  alike-cut = same-test (alike m c b) (alike j c′ b′) forth back
+    where
+      forth : T (alike m c b) → T (alike j c′ b′)
+      forth t = alike-in j c′ b′ (λ p h. sym (cut-same j c c′ c-cut p h) ∙ alike-out m c b t p (omega arith) ∙ cut-same j b b′ b-cut p h)
+
+      back : T (alike j c′ b′) → T (alike m c b)
+      back t = alike-in m c b (λ p _. c-cut p ∙ and-same (ltb p j) (c′ p) (b′ p) (λ h. alike-out j c′ b′ t p (ltb→lt p j h)) ∙ sym (b-cut p))
+
+  pub compared-cut : (s : Search) → compared s m c b ≡ compared s j c′ b′
+  compared-cut s =
+      except-mns (λ x. compared x m c b ≡ compared x j c′ b′)
+      (sym (compared-mns m c b) ∙ ap₂ (λ (x y : Bool). toldBy x y (alike m c b)) (ahead mns) (behind mns)
+      ∙ ap (toldBy (outranks mns j c′ b′) (outranks mns j b′ c′)) alike-cut ∙ compared-mns j c′ b′) (λ x other.
+      sym (compared-ranked x m c b other) ∙ ap₂ (λ (p q : Bool). toldBy p q true) (ahead x) (behind x) ∙ compared-ranked x j c′ b′ other) s
+    where
+      ahead : (x : Search) → outranks x m c b ≡ outranks x j c′ b′
+      ahead = outranks-cut j m c b c′ b′ l c-cut b-cut
+
+      behind : (x : Search) → outranks x m b c ≡ outranks x j b′ c′
+      behind = outranks-cut j m b c b′ c′ l b-cut c-cut
 
 -- ---- what is kept, vertex by vertex
 
@@ -222,6 +248,13 @@ module _ (s : Search) (rows w : List ℕ) (k : ℕ) (small : length rows ≤ 64)
   unfolding aheadIn
   ahead-same j u v h a b =
       outranks-cut j 64 (member (getD (labels j) u 0)) (member (getD (labels j) v 0)) (label arc w u) (label arc w v)
+      (omega (arith, ordering-fits n o)) (label-members rows w k small o j h u a) (label-members rows w k small o j h v b) s
+
+  pub compared-same : (j u v : ℕ) → j ≤ k → u < n → v < n
+      → comparedIn s (getD (labels j) u 0) (getD (labels j) v 0) ≡ compared s j (label arc w u) (label arc w v)
+  unfolding comparedIn
+  compared-same j u v h a b =
+      compared-cut j 64 (member (getD (labels j) u 0)) (member (getD (labels j) v 0)) (label arc w u) (label arc w v)
       (omega (arith, ordering-fits n o)) (label-members rows w k small o j h u a) (label-members rows w k small o j h v b) s
 
   pub beaten-same : (j v : ℕ) → j ≤ k → v < n

@@ -3,6 +3,7 @@
 --   mark-handed                      the mark stays
 --   place-room, take-back-room       there is a position to write
 --   set-same-test, offered-whole, offered-refused    the offered set, from the words of the moment
+--   report-refused, report-told      how two vertices stand to each other, or the refusal
 -- Assumes nothing.
 use Prim.Native.Nat.{ℕ, zero, suc, _≤_, _<_}
 use mathlib.Core.Path.{_≡_, refl, sym, ap, ap₂, _∙_, subst}
@@ -17,6 +18,7 @@ use Rattle.searches.specs.Answer.{firstRefusal}
 use Rattle.searches.proofs.Refusals.{none-accepts}
 use Rattle.traversal.specs.declared.Traversal.{Traversal}
 use Rattle.traversal.specs.State.{wellFormed, offers, setBelow, unlessRefused, placeTests, placeAnswer, takeBackTests, takeBackAnswer, offeredAnswer, offeredSet}
+use Rattle.traversal.specs.Compare.{compareTests, stance, told, refused, reported, compareAnswer}
 use Rattle.traversal.proofs.WellFormed.{parts}
 
 pub next-handed : {answer : Option ℕ} (next kept : Traversal) → none ≡ answer → next ≡ unlessRefused answer next kept
@@ -84,3 +86,13 @@ offered-refused t broken = (
   sym (ap (λ (b : Bool). cond b (setBelow (t .n) (offers t)) 0) broken),
   sym (ap (λ (b : Bool). cond {A = Option ℕ} (not b) (some 13) none) broken),
 )
+
+-- ---- two vertices compared
+
+pub report-refused : (t : Traversal) (u v : ℕ) {r : ℕ} → some r ≡ firstRefusal (compareTests t u v) → refused r ≡ compareAnswer t u v
+unfolding compareAnswer reported
+report-refused t u v e = ap (λ (refusal : Option ℕ). reported refusal (stance t u v)) e
+
+pub report-told : (t : Traversal) (u v : ℕ) → none ≡ firstRefusal (compareTests t u v) → told (stance t u v) ≡ compareAnswer t u v
+unfolding compareAnswer reported
+report-told t u v e = ap (λ (refusal : Option ℕ). reported refusal (stance t u v)) e

@@ -4,4 +4,6 @@ pub mod WellFormed
 pub mod Answered
 pub mod Holding
 pub mod Following
+pub mod Comparing
+pub mod Examples
 pub mod OpenWalk

@@ -5,7 +5,7 @@
 --   surveyed-broken, surveyed-judged what survey hands back where a test fails, and where judge decides
 --   surveyed-passes, surveyed-words  whether the open walk is well formed, and the words of the moment where it is
 --   surveyed-consistent              what these words keep beside the labels agrees with them
---   open-offers, free-offers         the words of the moment decide who is offered and who is placed
+--   open-offers, free-offers, compared-stance   the words of the moment decide who is offered, who is placed and how two stand to each other
 -- Assumes nothing.
 use Prim.Native.Nat.{ℕ, _≤_, _<_}
 use mathlib.Core.Path.{_≡_, refl, sym, ap, ap₂, _∙_, subst}
@@ -13,7 +13,7 @@ use mathlib.Core.Bool.{Bool, true, false, cond, not, _&&_}
 use mathlib.Core.List.{List}
 use native.Mathlib.Omega.{arith}
 use lib.Dec.{T, leb, leb→le, le→leb, not-T, T-not}
-use lib.ListN.{length, take, length-take}
+use lib.ListN.{length, take, getD, length-take}
 use lib.Seq.{length-take-le}
 use Rattle.bitset.specs.Word.{member}
 use Rattle.bitset.proofs.Tests.{and-in, and-out, is-true, cond-yes, cond-no}
@@ -24,10 +24,10 @@ use Rattle.searches.specs.Violation.{judge}
 use Rattle.searches.specs.Answer.{isPass, judgeAnswer}
 use Rattle.searches.proofs.Ordering.{ordering-fits}
 use Rattle.searches.proofs.Answers.{passes-accepts, accepted-ordering, ordering-accepted, judge-accepted, isPass-in, isPass-out}
-use Rattle.labels.specs.Words.{Consistent, openIn}
+use Rattle.labels.specs.Words.{Consistent, comparedIn, openIn}
 use Rattle.steps.specs.Columns.{columnsOf, Transposed}
 use Rattle.steps.specs.Steps.{labelsAfter, smallestAfter, largestAfter, placedAfter, freeAfter}
-use Rattle.steps.proofs.Representation.{open-offered, free-unplaced}
+use Rattle.steps.proofs.Representation.{open-offered, free-unplaced, compared-same}
 use Rattle.steps.proofs.Tracking.{consistent-after}
 use Rattle.engine.specs.declared.after.Moment.{Moment}
 use Rattle.engine.specs.Moments.{noMoment, momentOf, momentAfter}
@@ -35,6 +35,7 @@ use Rattle.engine.proofs.Calls.{valid-columns}
 use Rattle.traversal.specs.declared.Traversal.{Traversal}
 use Rattle.traversal.proofs.Unused.{unused-out, unused-in}
 use Rattle.traversal.specs.State.{plan, walk, usedFrom, wellFormed, surveyed, WellFormed, offers}
+use Rattle.traversal.specs.Compare.{stance}
 
 -- the tests one by one
 pub record Parts (t : Traversal) : Type 0 where
@@ -200,6 +201,13 @@ module _ (t : Traversal) (rows-full : length (t .rows) ≡ 64) (ordering-full : 
         ap₂ (λ (ls : List ℕ) (f : ℕ). openIn (searchOf (t .kind .0)) ls f v) labelled free-is
         ∙ open-offered (searchOf (t .kind .0)) (plan t) (walk t) (t .k) small distinct (t .k) (omega arith) v
         ∙ ap (λ (m : ℕ). offered (searchOf (t .kind .0)) (arcs (plan t)) m (walk t) (t .k) v) (plan-length (x .points))
+
+    pub compared-stance : (u v : ℕ) → u < t .n → v < t .n → comparedIn (searchOf (t .kind .0)) (getD labels u 0) (getD labels v 0) ≡ stance t u v
+    unfolding stance
+    compared-stance u v a b =
+        ap (λ (ls : List ℕ). comparedIn (searchOf (t .kind .0)) (getD ls u 0) (getD ls v 0)) labelled
+        ∙ compared-same (searchOf (t .kind .0)) (plan t) (walk t) (t .k) small distinct (t .k) u v (omega arith) (omega (arith, plan-length (x .points)))
+        (omega (arith, plan-length (x .points)))
 
     pub free-offers : (v : ℕ) → v < t .n → member free v ≡ not (placed (walk t) (t .k) v)
     free-offers v l =

@@ -1,9 +1,11 @@
 // The open walk: a graph with its mark, a kind of search, and an ordering that grows and shrinks by one vertex. It is a state by value: each call takes it,
 // and hands it back with the answer. Its fields may hold anything; what is not well formed is refused, and handed back as it came.
+mod comparison;
 mod offers;
 mod refusals;
 mod survey;
 
+use searches::Comparison;
 use searches::Kind;
 use searches::Mark;
 use searches::Outcome;
@@ -12,6 +14,7 @@ use searches::Vertex;
 ghost use mathlib.Core.Path.{_≡_};
 ghost use Rattle.searches.specs.Answer.{openAnswer, refusalOf};
 ghost use Rattle.traversal.specs.State.{opened, offeredAnswer, offeredSet, placeAnswer, grown, takeBackAnswer, shrunk};
+ghost use Rattle.traversal.specs.Compare.{compareAnswer, reportOf};
 
 // An open walk: `n` rows of a graph, and the first `k` entries of an ordering.
 pub struct Traversal {
@@ -34,6 +37,18 @@ pub struct Offering {
     pub traversal: Traversal,
     pub set: u64,
     pub outcome: Outcome,
+}
+
+// How the first of two vertices stands to the second, or why that is not told.
+pub enum Standing {
+    Told(Comparison),
+    Refused(Refusal),
+}
+
+// An open walk, and how the first of two of its unplaced vertices stands to the second.
+pub struct Compared {
+    pub traversal: Traversal,
+    pub standing: Standing,
 }
 
 impl Traversal {
@@ -111,6 +126,33 @@ impl Traversal {
             traversal: self,
             set,
             outcome: Outcome::Done,
+        }
+    }
+
+    // Whether `first` is ahead of `second`, behind it, level with it or neither, by the labels that the two have now. Refused (13, 8, 15; 8 and 15 for
+    // either vertex), nothing is told. The open walk comes back as it was.
+    pub fn compare(self, first: Vertex, second: Vertex) -> Compared
+        ensures state { λ r. ⌜ r .traversal ≡ self ⌝ }
+        ensures answer { λ r. ⌜ reportOf (r .standing) ≡ compareAnswer self (first .0) (second .0) ⌝ }
+    {
+        let kind = self.kind;
+        let mark = self.mark;
+        let n = self.n;
+        let rows = self.rows;
+        let ordering = self.ordering;
+        let standing = comparison::compare(
+            kind,
+            mark,
+            n,
+            &rows[..],
+            self.k,
+            &ordering[..],
+            first,
+            second,
+        );
+        Compared {
+            traversal: self,
+            standing,
         }
     }
 

@@ -10,7 +10,9 @@ use Rattle.bitset.specs.Word.{member}
 use native.Mathlib.Omega.{arith}
 use borrow.Author.Needs.{needs}
 use Rattle.searches.specs.Kind.{searchOf}
+use Rattle.searches.specs.Comparison.{isAhead}
 use Rattle.labels.specs.Words.{aheadIn, beatenIn}
+use Rattle.labels.proofs.Comparison.{ahead-answered}
 use Rattle.labels.proofs.Profiles.{label-of, profile-own}
 use Rattle.labels.proofs.Scan.{Scanned}
 use Rattle.labels.proofs.is_beaten.Statement.{statement}
@@ -40,25 +42,29 @@ cast-u c = omega (arith, found c .0)
 profile-of-requires : tie.Need-profile-of-requires Inv-loop μ-loop
 profile-of-requires c κs = (found c .0, c .before .before .before .before .pre .1)
 
-is-ahead-requires : tie.Need-is-ahead-requires Inv-loop μ-loop
-is-ahead-requires c κs =
+compare-requires : tie.Need-compare-requires Inv-loop μ-loop
+compare-requires c κs =
     let s = c .before .before .before .before .before in
     (profile-own (searchOf (s .args .kind .0)) (getD (s .args .labels .now) (c .before .smallest .result) 0) (c .profile-of .ensures), s .pre .0)
 
+tells-ahead-requires : tie.Need-tells-ahead-requires Inv-loop μ-loop
+tells-ahead-requires c κs = search needs
+
 -- whether the smallest number of what is left is ahead
-answered : (c : tie.After-is-ahead Inv-loop μ-loop)
-    → let a = c .before .before .before .before .before .before .args in
-    c .is-ahead .result ≡ aheadIn (searchOf (a .kind .0)) (getD (a .labels .now) (c .before .before .smallest .result) 0) (a .mine .label)
+answered : (c : tie.After-tells-ahead Inv-loop μ-loop)
+    → let a = c .before .before .before .before .before .before .before .args in
+    c .tells-ahead .result ≡ aheadIn (searchOf (a .kind .0)) (getD (a .labels .now) (c .before .before .before .smallest .result) 0) (a .mine .label)
 answered c =
-    let a = c .before .before .before .before .before .before .args in
+    let made = c .before .before in
+    let a = made .before .before .before .before .before .args in
     let s = searchOf (a .kind .0) in
-    c .is-ahead .ensures
-    ∙ ap (λ (x : ℕ). aheadIn s x (a .mine .label)) (label-of s (getD (a .labels .now) (c .before .before .smallest .result) 0) (c .before .profile-of .ensures))
+    c .tells-ahead .ensures ∙ ap isAhead (c .before .compare .ensures) ∙ ahead-answered s (made .profile-of .result .label) (a .mine .label)
+    ∙ ap (λ (x : ℕ). aheadIn s x (a .mine .label)) (label-of s (getD (a .labels .now) (made .before .smallest .result) 0) (made .profile-of .ensures))
 
 returns : tie.Need-returns Inv-loop μ-loop
 unfolding beatenIn
 returns c =
-    let n = c .before .before .before in
+    let n = c .before .before .before .before in
     let l = n .before .before in
     scan-found (l .loop .inv) (n .smallest .result) (found n .0) (found n .1) (said-true _ (answered (c .before)) (c .if1 .taken))
 
@@ -67,13 +73,13 @@ without-smallest-requires c κs = search needs
 
 loop-less : tie.Need-loop-less Inv-loop μ-loop
 loop-less c =
-    let n = c .before .before .before .before in
+    let n = c .before .before .before .before .before in
     let l = n .before .before in
     subst (λ (x : ℕ). x < l .loop .rest) (sym (taken-out (l .loop .rest) (c .without-smallest .ensures) (n .smallest .ensures))) (removed-less (l .loop .rest) (n .smallest .result) (l .loop .inv .word) (found n .1))
 
 loop-again : tie.Need-loop-again Inv-loop μ-loop
 loop-again c =
-    let n = c .before .before .before .before in
+    let n = c .before .before .before .before .before in
     let l = n .before .before in
     rw (taken-out (l .loop .rest) (c .without-smallest .ensures) (n .smallest .ensures))
     (scan-next (l .loop .inv) (n .smallest .result) (λ _. said-false _ (answered (c .before .before)) (c .before .if1 .left)))
@@ -92,7 +98,8 @@ is-beaten-spec =
     smallest-requires
     cast-u
     profile-of-requires
-    is-ahead-requires
+    compare-requires
+    tells-ahead-requires
     returns
     without-smallest-requires
     loop-less

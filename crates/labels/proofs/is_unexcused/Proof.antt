@@ -10,8 +10,9 @@ use borrow.Author.Needs.{needs}
 use Rattle.bitset.specs.Below.{anyBelow, firstBelow}
 use Rattle.bitset.specs.Word.{member, difference, fromUp}
 use Rattle.searches.specs.Kind.{Search, searchOf}
+use Rattle.searches.specs.Comparison.{isAhead}
 use Rattle.labels.specs.Words.{unexcusedIn}
-use Rattle.labels.proofs.Comparison.{unexcused-generic, unexcused-mns, unexcused-lexBfs, unexcused-lexDfs, of-kind, searchOf-other}
+use Rattle.labels.proofs.Comparison.{ahead-answered, unexcused-generic, unexcused-mns, unexcused-lexBfs, unexcused-lexDfs, of-kind, searchOf-other}
 use Rattle.labels.proofs.Extremes.{bfs-unexcused, dfs-unexcused}
 use Rattle.labels.proofs.Profiles.{unexcused-mcs}
 use Rattle.labels.proofs.is_unexcused.Statement.{statement}
@@ -84,12 +85,21 @@ returns-5 c =
     let x = s .args in
     of-kind (λ k. unexcusedIn k (x .position .0) (x .c .label) (x .b .label)) (c .before .if5 .taken) (c .subset .ensures ∙ unexcused-mns (x .position .0) (x .c .label) (x .b .label))
 
+compare-requires : tie.Need-compare-requires
+compare-requires c κs = let s = c .before .before .before .before .before .before .before .before .before .before .before .before in (s .pre .1, s .pre .2)
+
+tells-ahead-requires : tie.Need-tells-ahead-requires
+tells-ahead-requires c κs = search needs
+
 returns-6 : tie.Need-returns-6
 unfolding searchOf
 returns-6 c =
-    let s = c .before .before .before .before .before .before .before .before .before .before .before .before .before .before in
+    let mcs = c .before .before in
+    let s = mcs .before .before .before .before .before .before .before .before .before .before .before .before in
     let x = s .args in
-    unexcused-mcs (searchOf (x .kind .0)) (ap searchOf (c .before .before .if6 .taken)) (x .c) (x .b) (s .pre .1) (s .pre .2) (x .position .0)
+    let k = searchOf (x .kind .0) in
+    c .tells-ahead .ensures ∙ ap isAhead (c .before .compare .ensures) ∙ ahead-answered k (x .c .label) (x .b .label)
+    ∙ unexcused-mcs k (ap searchOf (mcs .if6 .taken)) (x .position .0) (x .c .label) (x .b .label)
 
 -- a label is a word
 b-word : (s : tie.Start) → s .args .b .label < 2 ^ 64
@@ -124,5 +134,7 @@ is-unexcused-spec =
     returns-4
     subset-requires
     returns-5
+    compare-requires
+    tells-ahead-requires
     returns-6
     returns-7)

@@ -10,9 +10,11 @@
 //!   h   the walks that a program of the library charges
 //!   i   the same calls under either mark of a plan
 //!   j   the ways back that a program of the library finds
+//!   k   the comparisons that a program of the library makes
 
 mod carry_over;
 mod charged_walks;
+mod compared_points;
 mod comparison;
 mod document;
 mod either_mark;
@@ -34,6 +36,7 @@ fn main() {
         + carry_over::compare()
         + charged_walks::compare()
         + either_mark::compare()
-        + ways_back::compare();
+        + ways_back::compare()
+        + compared_points::compare();
     println!("all {calls} calls agree");
 }

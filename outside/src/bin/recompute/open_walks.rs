@@ -96,8 +96,8 @@ impl Lines {
     }
 }
 
-/// As the program prints a mark.
-fn number(mark: Mark) -> u8 {
+/// As a program prints a mark.
+pub fn number(mark: Mark) -> u8 {
     match mark {
         Mark::TwoWay => 0,
         Mark::OneWay => 1,

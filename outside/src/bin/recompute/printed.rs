@@ -6,14 +6,19 @@ use std::process::exit;
 
 const CRATES: &str = concat!(env!("CARGO_MANIFEST_DIR"), "/../crates/");
 
+/// What the program prints.
+pub fn read(program: &str) -> String {
+    let path = format!("{CRATES}{program}/stdout");
+    fs::read_to_string(&path).unwrap_or_else(|error| {
+        eprintln!("{path}: {error}");
+        exit(1)
+    })
+}
+
 /// Ends this program at the first line that differs from `expected`, else prints the group's line and gives its number
 /// of calls.
 pub fn compare(group: &str, program: &str, expected: &str, calls: u64) -> u64 {
-    let path = format!("{CRATES}{program}/stdout");
-    let printed = fs::read_to_string(&path).unwrap_or_else(|error| {
-        eprintln!("{path}: {error}");
-        exit(1)
-    });
+    let printed = read(program);
     let differing = expected.lines().zip(printed.lines()).position(|(own, other)| own != other);
     if expected != printed {
         eprintln!("DIFFERENCE in group {group}, line {}", differing.map_or(0, |i| i + 1));

@@ -2,7 +2,7 @@
 -- measure is the word that is left.
 -- Assumes nothing.
 use Prim.Native.Nat.{ℕ, _<_, _^_}
-use mathlib.Core.Path.{_≡_, sym, ap₂, _∙_, subst}
+use mathlib.Core.Path.{_≡_, sym, ap, ap₂, _∙_, subst}
 use mathlib.Core.Logic.{⊎-elim}
 use mathlib.Core.List.{List}
 use native.Mathlib.Omega.{arith}
@@ -13,9 +13,11 @@ use Rattle.bitset.specs.Word.{member, removed}
 use Rattle.bitset.proofs.Tests.{said-true, said-false}
 use Rattle.bitset.proofs.Scan.{scan-start, scan-next, first-member, removed-less, taken-out}
 use Rattle.searches.specs.Kind.{Search, searchOf}
+use Rattle.searches.specs.Comparison.{isAhead}
 use Rattle.searches.specs.declared.Vertex.{Vertex}
 use Rattle.labels.specs.Words.{profileOf, aheadIn}
 use Rattle.labels.specs.declared.profile.Profile.{Profile}
+use Rattle.labels.proofs.Comparison.{ahead-answered}
 use Rattle.labels.proofs.Profiles.{label-of, profile-own}
 use Rattle.labels.proofs.Reached.{front-word, front-free}
 use Rattle.labels.proofs.Scan.{Scanned, scan-first, scan-lead, scan-champion}
@@ -108,8 +110,8 @@ cast-t22 c = omega (arith, found c .0)
 profile-of-requires-2 : tie.Need-profile-of-requires-2 Inv-loop μ-loop
 profile-of-requires-2 c κs = let l = c .before .before in (found c .0, l .before .before .before .before .before .before .before .pre .2)
 
-is-ahead-requires : tie.Need-is-ahead-requires Inv-loop μ-loop
-is-ahead-requires c κs =
+compare-requires : tie.Need-compare-requires Inv-loop μ-loop
+compare-requires c κs =
     let l = c .before .before .before in
     let a = l .before .before .before .before .before .before .before .args in
     let k = searchOf (a .kind .0) in (
@@ -117,18 +119,22 @@ is-ahead-requires c κs =
       profile-own k (getD (a .labels .now) (l .loop .best .0) 0) (l .loop .inv .2),
     )
 
+tells-ahead-requires : tie.Need-tells-ahead-requires Inv-loop μ-loop
+tells-ahead-requires c κs = search needs
+
 -- whether the smallest number of what is left is ahead of the leader
-answered : (c : tie.After-is-ahead Inv-loop μ-loop)
-    → let l = c .before .before .before .before in
+answered : (c : tie.After-tells-ahead Inv-loop μ-loop)
+    → let l = c .before .before .before .before .before in
     let a = l .before .before .before .before .before .before .before .args in
-    c .is-ahead .result
-    ≡ aheadIn (searchOf (a .kind .0)) (getD (a .labels .now) (c .before .before .smallest3 .result) 0) (getD (a .labels .now) (l .loop .best .0) 0)
+    c .tells-ahead .result
+    ≡ aheadIn (searchOf (a .kind .0)) (getD (a .labels .now) (c .before .before .before .smallest3 .result) 0) (getD (a .labels .now) (l .loop .best .0) 0)
 answered c =
-    let l = c .before .before .before .before in
+    let made = c .before .before in
+    let l = made .before .before .before in
     let a = l .before .before .before .before .before .before .before .args in
     let k = searchOf (a .kind .0) in
-    c .is-ahead .ensures
-    ∙ ap₂ (λ (x y : ℕ). aheadIn k x y) (label-of k (getD (a .labels .now) (c .before .before .smallest3 .result) 0) (c .before .profile-of2 .ensures))
+    c .tells-ahead .ensures ∙ ap isAhead (c .before .compare .ensures) ∙ ahead-answered k (made .profile-of2 .result .label) (l .loop .lead .label)
+    ∙ ap₂ (λ (x y : ℕ). aheadIn k x y) (label-of k (getD (a .labels .now) (made .before .smallest3 .result) 0) (made .profile-of2 .ensures))
     (label-of k (getD (a .labels .now) (l .loop .best .0) 0) (l .loop .inv .2))
 
 without-smallest-requires-2 : tie.Need-without-smallest-requires-2 Inv-loop μ-loop
@@ -136,14 +142,14 @@ without-smallest-requires-2 c κs = search needs
 
 loop-less : tie.Need-loop-less Inv-loop μ-loop
 loop-less c =
-    let n = c .before .before .before .before in
+    let n = c .before .before .before .before .before in
     let l = n .before .before in
     subst (λ (x : ℕ). x < l .loop .rest) (sym (taken-out (l .loop .rest) (c .without-smallest2 .ensures) (n .smallest3 .ensures))) (removed-less (l .loop .rest) (n .smallest3 .result) (l .loop .inv .1 .word) (found n .1))
 
 loop-again : tie.Need-loop-again Inv-loop μ-loop
 loop-again c =
     let asked = c .before .before in
-    let n = asked .before .before in
+    let n = asked .before .before .before in
     let l = n .before .before in
     let m = l .before .before .before .before .before in
     let a = m .before .before .args in
@@ -159,7 +165,7 @@ loop-again c =
     subst (λ (v : Vertex). Leading k (a .labels .now) (a .free) front v (now .lead) (removed (l .loop .rest) u)) (sym (t .1)) (
       front-free (a .free) (a .reached) (m .common .ensures) u (l .loop .inv .1 .part u (found n .1)),
       scan-lead k (a .labels .now) front (l .loop .rest) best u (l .loop .inv .1) (said-true ahead (answered asked) (t .0 .taken)),
-      t .2 ∙ asked .before .profile-of2 .ensures,
+      t .2 ∙ asked .before .before .profile-of2 .ensures,
     )) (λ t.
     subst (λ (v : Vertex). Leading k (a .labels .now) (a .free) front v (now .lead) (removed (l .loop .rest) u)) (sym (t .1)) (
       l .loop .inv .0,
@@ -194,7 +200,8 @@ champion-spec =
     smallest-requires-3
     cast-t22
     profile-of-requires-2
-    is-ahead-requires
+    compare-requires
+    tells-ahead-requires
     without-smallest-requires-2
     loop-less
     loop-again

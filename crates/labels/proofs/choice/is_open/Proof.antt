@@ -8,8 +8,9 @@ use Rattle.bitset.specs.Word.{member}
 use Rattle.bitset.proofs.Tests.{not-true, not-false, said-true, said-false}
 use Rattle.bitset.proofs.Word.{member-below}
 use Rattle.searches.specs.Kind.{searchOf}
+use Rattle.searches.specs.Comparison.{isAhead}
 use Rattle.labels.specs.Words.{aheadIn, beatenIn, openIn}
-use Rattle.labels.proofs.Comparison.{searchOf-mns}
+use Rattle.labels.proofs.Comparison.{ahead-answered, searchOf-mns}
 use Rattle.labels.proofs.Profiles.{label-of, profile-own}
 use Rattle.labels.proofs.Reached.{beaten-reached}
 use Rattle.labels.proofs.Scan.{closed-outside, open-champion, closed-behind, open-level, open-unbeaten}
@@ -55,28 +56,33 @@ leader s = member-below 64 (s .fits .free .fits) (s .args .best .0) (s .pre .0 .
 profile-of-requires-2 : tie.Need-profile-of-requires-2
 profile-of-requires-2 c κs = let s = c .before .before .before .before .before .before .before in (leader s, s .pre .2)
 
-is-ahead-requires : tie.Need-is-ahead-requires
-is-ahead-requires c κs =
+compare-requires : tie.Need-compare-requires
+compare-requires c κs =
     let a = c .before .before .before .before .before .before .before .before .args in
     let k = searchOf (a .kind .0) in (
       profile-own k (getD (a .labels .now) (a .best .0) 0) (c .profile-of2 .ensures),
       profile-own k (getD (a .labels .now) (a .v .0) 0) (c .before .profile-of .ensures),
     )
 
+tells-ahead-requires : tie.Need-tells-ahead-requires
+tells-ahead-requires c κs = search needs
+
 -- whether the champion is ahead of v
-answered : (c : tie.After-is-ahead)
-    → let a = c .before .before .before .before .before .before .before .before .before .args in
-    c .is-ahead .result ≡ aheadIn (searchOf (a .kind .0)) (getD (a .labels .now) (a .best .0) 0) (getD (a .labels .now) (a .v .0) 0)
+answered : (c : tie.After-tells-ahead)
+    → let a = c .before .before .before .before .before .before .before .before .before .before .args in
+    c .tells-ahead .result ≡ aheadIn (searchOf (a .kind .0)) (getD (a .labels .now) (a .best .0) 0) (getD (a .labels .now) (a .v .0) 0)
 answered c =
-    let a = c .before .before .before .before .before .before .before .before .before .args in
+    let lead = c .before .before in
+    let mine = lead .before in
+    let a = mine .before .before .before .before .before .before .before .args in
     let k = searchOf (a .kind .0) in
-    c .is-ahead .ensures
-    ∙ ap₂ (λ (x y : ℕ). aheadIn k x y) (label-of k (getD (a .labels .now) (a .best .0) 0) (c .before .profile-of2 .ensures))
-    (label-of k (getD (a .labels .now) (a .v .0) 0) (c .before .before .profile-of .ensures))
+    c .tells-ahead .ensures ∙ ap isAhead (c .before .compare .ensures) ∙ ahead-answered k (lead .profile-of2 .result .label) (mine .profile-of .result .label)
+    ∙ ap₂ (λ (x y : ℕ). aheadIn k x y) (label-of k (getD (a .labels .now) (a .best .0) 0) (lead .profile-of2 .ensures))
+    (label-of k (getD (a .labels .now) (a .v .0) 0) (mine .profile-of .ensures))
 
 returns-3 : tie.Need-returns-3
 returns-3 c =
-    let s = c .before .before .before .before .before .before .before .before .before .before in
+    let s = c .before .before .before .before .before .before .before .before .before .before .before in
     let a = s .args in
     let k = searchOf (a .kind .0) in
     closed-behind k (a .labels .now) (a .free) (a .best .0) (a .v .0) (leader s) (s .pre .0)
@@ -85,7 +91,7 @@ returns-3 c =
 returns-4 : tie.Need-returns-4
 returns-4 c =
     let level = c .before .before .before in
-    let v = level .before .before .before .before in
+    let v = level .before .before .before .before .before in
     let s = v .before .before .before .before .before .before in
     let a = s .args in
     let k = searchOf (a .kind .0) in
@@ -97,14 +103,14 @@ common-requires c κs = search needs
 
 is-beaten-requires : tie.Need-is-beaten-requires
 is-beaten-requires c κs =
-    let p = c .before .before .before .before .before .before .before in
+    let p = c .before .before .before .before .before .before .before .before in
     let s = p .before .before .before .before .before .before .before in
     let a = s .args in
     (profile-own (searchOf (a .kind .0)) (getD (a .labels .now) (a .v .0) 0) (p .profile-of .ensures), s .pre .2)
 
 returns-5 : tie.Need-returns-5
 returns-5 c =
-    let p = c .before .before .before .before .before .before .before .before in
+    let p = c .before .before .before .before .before .before .before .before .before in
     let s = p .before .before .before .before .before .before .before in
     let a = s .args in
     let k = searchOf (a .kind .0) in
@@ -124,7 +130,8 @@ is-open-spec =
     returns-2
     profile-of-requires
     profile-of-requires-2
-    is-ahead-requires
+    compare-requires
+    tells-ahead-requires
     returns-3
     returns-4
     common-requires

@@ -1,0 +1,221 @@
+-- `traversal::comparison::compare` meets its contract: each refusal is given after the tests before it were tried, and where none applies the words of
+-- the moment tell how the two stand.
+-- Assumes nothing.
+use mathlib.Core.Path.{_≡_, sym, ap, ap₂, _∙_, subst}
+use mathlib.Core.Bool.{Bool, not, _||_, Bool·not-not}
+use mathlib.Core.List.{List}
+use Prim.Native.Nat.{ℕ, _≤_, _<_}
+use denote.Ref.{now}
+use native.Mathlib.Omega.{arith}
+use borrow.Author.Needs.{needs}
+use borrow.Author.Tests.{leb-false}
+use lib.Dec.{T, leb}
+use lib.ListN.{length, take, drop, getD}
+use Rattle.bitset.proofs.Tests.{not-false, or-false}
+use Rattle.bitset.specs.Word.{member}
+use Rattle.searches.specs.Kind.{searchOf}
+use Rattle.searches.specs.Ordering.{placed}
+use Rattle.searches.specs.Answer.{number}
+use Rattle.checks.proofs.Tried.{Tried, tried-none, tried-one, refused-here, accepted-here}
+use Rattle.labels.specs.Words.{Consistent, comparedIn}
+use Rattle.labels.proofs.Profiles.{label-of, profile-own}
+use Rattle.traversal.specs.declared.Traversal.{Traversal}
+use Rattle.traversal.specs.State.{state, plan, walk, wellFormed, WellFormed}
+use Rattle.traversal.specs.Compare.{compareTests, told, reportOf}
+use Rattle.traversal.proofs.WellFormed.{surveyed-passes, surveyed-words, surveyed-columns, surveyed-consistent, well-formed-out, free-offers, compared-stance}
+use Rattle.traversal.proofs.Answered.{report-refused, report-told}
+use Rattle.traversal.proofs.comparison.compare.Statement.{statement}
+use Rattle.traversal.proofs.comparison.compare.Tie as tie
+
+abbrev asked : tie.Start → Traversal
+asked s = state (s .args .kind) (s .args .mark) (s .args .n) (now (s .args .rows)) (s .args .k) (now (s .args .ordering))
+
+abbrev tests : tie.Start → List (ℕ × Bool)
+tests s = compareTests (asked s) (s .args .first .0) (s .args .second .0)
+
+-- the first i tests do not hold
+abbrev Past : ℕ → tie.Start → Type 0
+Past i s = Tried (tests s) (drop i (tests s))
+
+-- where the survey was made, and the call began, before the first branch
+abbrev made : tie.After-struct-known3 → tie.After-survey
+made c = c .before .before .before .before .before
+
+abbrev begun : tie.After-struct-known3 → tie.Start
+begun c = made c .before .before .before
+
+-- ---- what is known once 13 does not apply
+
+-- what survey says of the state
+well : (c : tie.After-struct-known3) → made c .survey .result .passes ≡ wellFormed (asked (begun c))
+well c = surveyed-passes (asked (begun c)) (made c .survey .ensures)
+
+sound : (c : tie.Else1) → T (wellFormed (asked (begun (c .before))))
+sound c = subst (λ (b : Bool). T b) (sym (not-false (made (c .before) .survey .result .passes) (c .if1 .left)) ∙ well (c .before)) tt
+
+formed : (c : tie.Else1) → WellFormed (asked (begun (c .before)))
+formed c = let s = begun (c .before) in well-formed-out (asked s) (s .pre .0) (s .pre .1) (sound c)
+
+-- the columns of the moment
+columns-there : (c : tie.Else1)
+    → let n = begun (c .before) .args .n in
+    let columns = made (c .before) .survey .result .columns in
+    (n ≤ length columns) × (n ≡ length (take n columns))
+columns-there c = let s = begun (c .before) in surveyed-columns (asked s) (s .pre .0) (s .pre .1) (made (c .before) .survey .ensures) (sound c)
+
+consistent : (c : tie.Else1)
+    → let m = made (c .before) .survey .result in
+    Consistent (take (begun (c .before) .args .n) (m .columns)) (m .labels) (m .smallest) (m .largest) (m .placed)
+consistent c = let s = begun (c .before) in surveyed-consistent (asked s) (s .pre .0) (s .pre .1) (made (c .before) .survey .ensures) (sound c)
+
+-- ---- and once 8 does not
+
+inside : (c : tie.Else2) → let a = begun (c .before .before) .args in (a .first .0 < a .n) × (a .second .0 < a .n)
+inside c =
+    let a = begun (c .before .before) .args in
+    let both = or-false (leb (a .n) (a .first .0)) (leb (a .n) (a .second .0)) (c .if2 .left) in
+    (leb-false (a .n) (a .first .0) (both .0), leb-false (a .n) (a .second .0) (both .1))
+
+-- both are numbers of labels
+below-64 : (c : tie.Else2) → let a = begun (c .before .before) .args in (a .first .0 < 64) × (a .second .0 < 64)
+below-64 c = let points = formed (c .before) .points in (omega (arith, inside c .0, points), omega (arith, inside c .1, points))
+
+-- who is not unplaced is placed
+stands-in : (c : tie.Else2) (v : ℕ) {r : Bool}
+    → let s = begun (c .before .before) in
+    v < s .args .n → r ≡ member (made (c .before .before) .survey .result .free) v → placed (walk (asked s)) (s .args .k) v ≡ not r
+unfolding plan walk
+stands-in c v l e =
+    let s = begun (c .before .before) in
+    let words = surveyed-words (asked s) (s .pre .0) (s .pre .1) (made (c .before .before) .survey .ensures) (sound (c .before)) in
+    sym (ap not (e ∙ free-offers (asked s) (s .pre .0) (s .pre .1) (formed (c .before)) (words .0) (words .1) v l) ∙ Bool·not-not (placed (walk (asked s)) (s .args .k) v))
+
+either-placed : (c : tie.Else2)
+    → let s = begun (c .before .before) in
+    let second = c .before .before .before in
+    (placed (walk (asked s)) (s .args .k) (s .args .first .0) || placed (walk (asked s)) (s .args .k) (s .args .second .0))
+    ≡ (not (second .before .contains .result) || not (second .contains2 .result))
+either-placed c =
+    let a = begun (c .before .before) .args in
+    let second = c .before .before .before in
+    ap₂ (λ (x y : Bool). x || y) (stands-in c (a .first .0) (inside c .0) (second .before .contains .ensures)) (stands-in c (a .second .0) (inside c .1) (second .contains2 .ensures))
+
+-- ---- the tests in their order
+
+past-1 : (c : tie.Else1) → Past 1 (begun (c .before))
+unfolding compareTests
+past-1 c = tried-one (tried-none _) (ap not (sym (well (c .before))) ∙ c .if1 .left)
+
+past-2 : (c : tie.Else2) → Past 2 (begun (c .before .before))
+unfolding compareTests
+past-2 c = tried-one (past-1 (c .before)) (c .if2 .left)
+
+past-3 : (c : tie.Else3) → Past 3 (begun (c .before .before .before))
+unfolding compareTests
+past-3 c = tried-one (past-2 (c .before)) (either-placed (c .before) ∙ c .if3 .left)
+
+survey-requires : tie.Need-survey-requires
+survey-requires c κs = search needs
+
+cast-u : tie.Need-cast-u
+cast-u c = search needs
+
+cast-v : tie.Need-cast-v
+cast-v c = search needs
+
+contains-requires : tie.Need-contains-requires
+contains-requires c κs = search needs
+
+contains-requires-2 : tie.Need-contains-requires-2
+contains-requires-2 c κs = search needs
+
+returns : tie.Need-returns
+unfolding compareTests number reportOf
+returns c =
+    let s = begun (c .before) in
+    report-refused (asked s) (s .args .first .0) (s .args .second .0) (refused-here (tried-none _) (ap not (sym (well (c .before))) ∙ c .if1 .taken))
+
+returns-2 : tie.Need-returns-2
+unfolding compareTests number reportOf
+returns-2 c =
+    let s = begun (c .before .before) in
+    report-refused (asked s) (s .args .first .0) (s .args .second .0) (refused-here (past-1 (c .before)) (c .if2 .taken))
+
+returns-3 : tie.Need-returns-3
+unfolding compareTests number reportOf
+returns-3 c =
+    let s = begun (c .before .before .before) in
+    report-refused (asked s) (s .args .first .0) (s .args .second .0) (refused-here (past-2 (c .before)) (either-placed (c .before) ∙ c .if3 .taken))
+
+-- ---- what is compared
+
+array-share-prefix-columns : tie.Need-array-share-prefix-columns
+array-share-prefix-columns c = columns-there (c .before .before .before .before .before .before) .0
+
+slice-aggregate-profile-of : tie.Need-slice-aggregate-profile-of
+slice-aggregate-profile-of c = columns-there (c .before .before .before .before .before .before .before) .1
+
+profile-of-requires : tie.Need-profile-of-requires
+profile-of-requires c κs =
+    let past = c .before .before .before .before .before .before .before .before .before in
+    (below-64 past .0, consistent (past .before))
+
+array-share-prefix-columns-2 : tie.Need-array-share-prefix-columns-2
+array-share-prefix-columns-2 c = columns-there (c .before .before .before .before .before .before .before .before .before .before .before) .0
+
+slice-aggregate-profile-of-2 : tie.Need-slice-aggregate-profile-of-2
+slice-aggregate-profile-of-2 c = columns-there (c .before .before .before .before .before .before .before .before .before .before .before .before) .1
+
+profile-of-requires-2 : tie.Need-profile-of-requires-2
+profile-of-requires-2 c κs =
+    let past = c .before .before .before .before .before .before .before .before .before .before .before .before .before .before in
+    (below-64 past .1, consistent (past .before))
+
+compare-requires : tie.Need-compare-requires
+compare-requires c κs =
+    let first = c .before .before .before .before .before in
+    let past = first .before .before .before .before .before .before .before .before .before .before in
+    let a = begun (past .before .before) .args in
+    let labels = made (past .before .before) .survey .result .labels in
+    let k = searchOf (a .kind .0) in
+    (profile-own k (getD labels (a .first .0) 0) (first .profile-of .ensures), profile-own k (getD labels (a .second .0) 0) (c .profile-of2 .ensures))
+
+returns-4 : tie.Need-returns-4
+unfolding compareTests reportOf plan walk
+returns-4 c =
+    let second = c .before in
+    let first = second .before .before .before .before .before in
+    let last = first .before .before .before .before .before .before .before .before .before in
+    let past = last .before in
+    let s = begun (past .before .before) in
+    let a = s .args in
+    let moment = made (past .before .before) .survey in
+    let labels = moment .result .labels in
+    let k = searchOf (a .kind .0) in
+    let words = surveyed-words (asked s) (s .pre .0) (s .pre .1) (moment .ensures) (sound (past .before)) in
+    ap told
+    (c .compare .ensures
+    ∙ ap₂ (λ (x y : ℕ). comparedIn k x y) (label-of k (getD labels (a .first .0) 0) (first .profile-of .ensures)) (label-of k (getD labels (a .second .0) 0) (second .profile-of2 .ensures))
+    ∙ compared-stance (asked s) (s .pre .0) (s .pre .1) (formed (past .before)) (words .0) (words .1) (a .first .0) (a .second .0) (inside past .0) (inside past .1))
+    ∙ report-told (asked s) (a .first .0) (a .second .0) (accepted-here (past-3 last))
+
+pub compare-spec : {M : Type 1} → statement M
+compare-spec =
+    tie.close
+    (tie.spec
+    survey-requires
+    cast-u
+    cast-v
+    contains-requires
+    contains-requires-2
+    returns
+    returns-2
+    returns-3
+    array-share-prefix-columns
+    slice-aggregate-profile-of
+    profile-of-requires
+    array-share-prefix-columns-2
+    slice-aggregate-profile-of-2
+    profile-of-requires-2
+    compare-requires
+    returns-4)
