@@ -24,7 +24,8 @@ use Rattle.searches.specs.Label.{empty, settled, outranks}
 use Rattle.searches.specs.Comparison.{toldBy, isAhead}
 use Rattle.searches.specs.Violation.{condition, meets}
 use Rattle.searches.proofs.Reason.{Reason, outranks→reason, reason→outranks}
-use Rattle.searches.proofs.Comparing.{alike-within, ahead-told, compared-mns, compared-ranked}
+use Rattle.searches.proofs.Level.{alike-within}
+use Rattle.searches.proofs.Comparing.{ahead-told, compared-mns, compared-ranked}
 use Rattle.labels.specs.Words.{aheadIn, comparedIn, unexcusedIn}
 
 -- ---- words as sets
@@ -124,19 +125,19 @@ pub ranked-words : (s : Search) → s ≢ mns → (c b : ℕ) {ahead behind : Bo
 unfolding comparedIn aheadIn
 ranked-words s other c b is is′ = ap₂ (λ (x y : Bool). toldBy x y true) is is′ ∙ compared-ranked s 64 (member c) (member b) other
 
-both : (x y : Bool) → toldBy (x && not y) (y && not x) x ≡ toldBy (x && not y) (y && not x) (x && y)
+one-inclusion : (x y : Bool) → toldBy (x && not y) (y && not x) x ≡ toldBy (x && not y) (y && not x) (x && y)
 unfolding toldBy
-both true true = refl
-both true false = refl
-both false true = refl
-both false false = refl
+one-inclusion true true = refl
+one-inclusion true false = refl
+one-inclusion false true = refl
+one-inclusion false false = refl
 
 -- in MNS two inclusions do: where none is ahead, each holds or none does
 pub mns-compared : (c b : ℕ) {covers covered : Bool} → covers ≡ within 64 (member b) (member c) → covered ≡ within 64 (member c) (member b)
     → toldBy (covers && not covered) (covered && not covers) covers ≡ comparedIn mns c b
 unfolding comparedIn aheadIn
 mns-compared c b {covers} {covered} is is′ =
-    both covers covered ∙ ap₂ (λ (x y : Bool). toldBy (x && not y) (y && not x) (x && y)) is is′
+    one-inclusion covers covered ∙ ap₂ (λ (x y : Bool). toldBy (x && not y) (y && not x) (x && y)) is is′
     ∙ ap₂ (λ (x y : Bool). toldBy x y (within 64 (member b) (member c) && within 64 (member c) (member b))) (mns-words c b) (mns-words b c)
     ∙ ap (toldBy (aheadIn mns c b) (aheadIn mns b c)) (alike-within 64 (member c) (member b)) ∙ compared-mns 64 (member c) (member b)
 

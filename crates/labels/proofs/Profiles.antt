@@ -1,7 +1,8 @@
 -- What is compared of a vertex: what a profile shows of its label, and MCS, which compares by the count.
 --   uncounted                   no kind byte but 6 has labels counted
 --   label-of, profile-own       what the profile of a label shows
---   mcs-words, unexcused-mcs    with these counts, what the code computes for MCS is what aheadIn and unexcusedIn say
+--   mcs-words                   with these counts, what the code compares for MCS is what aheadIn says
+--   unexcused-mcs               and MCS's own condition is just that
 -- Assumes nothing.
 use mathlib.Core.Path.{_≡_, refl, sym, ap, ap₂, _∙_, subst}
 use mathlib.Core.Logic.{_≢_}

@@ -33,9 +33,9 @@ fn told_by(ahead: bool, behind: bool, level: bool) -> Comparison
     Comparison::Neither
 }
 
-// How a vertex of profile `c` stands to one of profile `b`: in MNS by two inclusions, in the other searches by who is ahead. MNS is tested first,
-// then the kinds below LexBFS, then the others: the compiler splits a loop that calls this into one for each of several kinds, and into fewer where
-// all seven tests stand in a row.
+// How a vertex of profile `c` stands to one of profile `b`. In MNS two inclusions tell it: where none is ahead, both hold or none does. In the
+// other searches who is ahead tells it: where none is, the two are level. MNS is tested first, then the kinds below LexBFS, then the others: the
+// compiler splits a loop that calls this into one for each of several kinds, and into fewer where all seven tests stand in a row.
 pub fn compare(kind: Kind, c: Profile, b: Profile) -> Comparison
     requires { ⌜ (c ≡ profileOf (searchOf (kind .0)) (c .label)) × (b ≡ profileOf (searchOf (kind .0)) (b .label)) ⌝ }
     ensures { λ r. ⌜ r ≡ comparedIn (searchOf (kind .0)) (c .label) (b .label) ⌝ }

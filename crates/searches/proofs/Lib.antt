@@ -5,6 +5,7 @@ pub mod Running
 pub mod Maximal
 pub mod Ordering
 pub mod Run
+pub mod Level
 pub mod Comparing
 pub mod Violations
 pub mod Judge

@@ -30,7 +30,8 @@ use Rattle.searches.specs.Run.{offered}
 use Rattle.searches.specs.Violation.{Condition, noneExcuses, counted, condition, meets}
 use Rattle.searches.proofs.Reason.{Reason, meets-in, meets-out, outranks→reason, reason→outranks}
 use Rattle.searches.proofs.Ordering.{ordering-fits}
-use Rattle.searches.proofs.Comparing.{alike-in, alike-out, except-mns, compared-mns, compared-ranked}
+use Rattle.searches.proofs.Level.{alike-in, alike-out, except-mns}
+use Rattle.searches.proofs.Comparing.{compared-mns, compared-ranked}
 use Rattle.labels.specs.Words.{aheadIn, comparedIn, labelWith, changedBy, joinedIn, beatenIn, openIn, Covers}
 use Rattle.labels.proofs.Spreading.{spread-above, spread-length, spread-at}
 use Rattle.labels.proofs.Reached.{covers-spread}

@@ -3,22 +3,25 @@
 --   mark-handed                      the mark stays
 --   place-room, take-back-room       there is a position to write
 --   set-same-test, offered-whole, offered-refused    the offered set, from the words of the moment
---   report-refused, report-told      how two vertices stand to each other, or the refusal
+--   offered-member                   and what is in it
 -- Assumes nothing.
 use Prim.Native.Nat.{ℕ, zero, suc, _≤_, _<_}
 use mathlib.Core.Path.{_≡_, refl, sym, ap, ap₂, _∙_, subst}
-use mathlib.Core.Bool.{Bool, true, false, cond, not}
+use mathlib.Core.Bool.{Bool, true, false, cond, not, _&&_}
 use mathlib.Core.Logic.{_⊎_, inl, inr}
 use mathlib.Core.Option.{Option, none, some}
 use native.Mathlib.Omega.{arith}
-use lib.Dec.{T, eqb, eqb-refl, not-T}
-use Rattle.bitset.specs.Word.{inserted}
-use Rattle.bitset.proofs.Tests.{not-not, three-ways}
+use lib.Dec.{T, ltb, eqb, lt→ltb, eqb-refl, not-T}
+use Rattle.bitset.specs.Word.{member, inserted}
+use Rattle.bitset.proofs.Tests.{and-in, and-out, not-not, same-test, cond-yes, three-ways}
+use Rattle.searches.specs.Kind.{searchOf}
+use Rattle.searches.specs.Ordering.{arcs}
 use Rattle.searches.specs.Answer.{firstRefusal}
+use Rattle.searches.proofs.Run.{offered-out}
 use Rattle.searches.proofs.Refusals.{none-accepts}
 use Rattle.traversal.specs.declared.Traversal.{Traversal}
-use Rattle.traversal.specs.State.{wellFormed, offers, setBelow, unlessRefused, placeTests, placeAnswer, takeBackTests, takeBackAnswer, offeredAnswer, offeredSet}
-use Rattle.traversal.specs.Compare.{compareTests, stance, told, refused, reported, compareAnswer}
+use Rattle.traversal.specs.State.{plan, walk, wellFormed, offers, setBelow, unlessRefused, placeTests, placeAnswer, takeBackTests, takeBackAnswer, offeredAnswer, offeredSet}
+use Rattle.traversal.proofs.SetBelow.{member-setBelow}
 use Rattle.traversal.proofs.WellFormed.{parts}
 
 pub next-handed : {answer : Option ℕ} (next kept : Traversal) → none ≡ answer → next ≡ unlessRefused answer next kept
@@ -87,12 +90,11 @@ offered-refused t broken = (
   sym (ap (λ (b : Bool). cond {A = Option ℕ} (not b) (some 13) none) broken),
 )
 
--- ---- two vertices compared
-
-pub report-refused : (t : Traversal) (u v : ℕ) {r : ℕ} → some r ≡ firstRefusal (compareTests t u v) → refused r ≡ compareAnswer t u v
-unfolding compareAnswer reported
-report-refused t u v e = ap (λ (refusal : Option ℕ). reported refusal (stance t u v)) e
-
-pub report-told : (t : Traversal) (u v : ℕ) → none ≡ firstRefusal (compareTests t u v) → told (stance t u v) ≡ compareAnswer t u v
-unfolding compareAnswer reported
-report-told t u v e = ap (λ (refusal : Option ℕ). reported refusal (stance t u v)) e
+-- what is in it
+pub offered-member : (t : Traversal) → T (wellFormed t) → (v : ℕ) → member (offeredSet t) v ≡ offers t v
+unfolding offeredSet offers
+offered-member t formed v =
+    ap (λ (set : ℕ). member set v) (cond-yes (wellFormed t) (setBelow (t .n) (offers t)) 0 formed)
+    ∙ member-setBelow (t .n) (parts t formed .points) (offers t) v
+    ∙ same-test (ltb v (t .n) && offers t v) (offers t v) (λ x. and-out (ltb v (t .n)) (offers t v) x .1) (λ o.
+    and-in (ltb v (t .n)) (offers t v) (lt→ltb v (t .n) (offered-out (searchOf (t .kind .0)) (arcs (plan t)) (t .n) (walk t) (t .k) v o .vertex)) o)

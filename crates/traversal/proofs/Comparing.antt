@@ -1,197 +1,126 @@
 -- Two unplaced vertices of an open walk compared: what holds of every state and every two numbers. The call's contract is an equation with
 -- `compareAnswer`; each theorem's comment says which sentence of 02 it is.
 -- Assumes nothing.
-use Prim.Native.Nat.{ℕ, _≤_, _<_}
-use mathlib.Core.Path.{_≡_, refl, sym, ap, ap₂, _∙_, subst}
-use mathlib.Core.Bool.{Bool, not, _&&_, _||_, or-comm}
-use mathlib.Core.Logic.{_⊎_, inl, inr, ⊎-elim, _↔_}
+use Prim.Native.Nat.{ℕ}
+use mathlib.Core.Path.{_≡_, refl, sym, ap, _∙_, subst}
+use mathlib.Core.Bool.{Bool}
+use mathlib.Core.Logic.{_↔_}
 use mathlib.Core.List.{List, [], _∷_, map}
-use native.Mathlib.Omega.{arith}
-use lib.Dec.{T, ltb, leb, ltb→lt, lt→ltb, leb→le, nleb→lt, not-T, T-not}
+use lib.Dec.{T}
+use lib.ListN.{take}
 use Rattle.bitset.specs.Word.{member}
-use Rattle.bitset.proofs.Tests.{and-in, and-out, or-inl, or-inr, or-out, not-not, cond-yes}
 use Rattle.searches.specs.Kind.{Search, mns, searchOf}
-use Rattle.searches.specs.Ordering.{arcs, placed}
+use Rattle.searches.specs.Ordering.{arcs}
 use Rattle.searches.specs.Label.{label}
 use Rattle.searches.specs.Comparison.{stands, turned}
-use Rattle.searches.specs.Answer.{Accepts, Refuses}
+use Rattle.searches.specs.Answer.{BothWays, Refuses}
 use Rattle.searches.specs.declared.Comparison.{Comparison}
+use Rattle.searches.specs.declared.Kind.{Kind}
+use Rattle.searches.specs.declared.Mark.{Mark}
 use Rattle.searches.proofs.Run.{offered-in, offered-out}
-use Rattle.searches.proofs.Refusals.{refuses-first, accepts-or-refuses, accepts-none}
-use Rattle.searches.proofs.Comparing.{level-offered, exactly-one, neither-mns, turned-round, level-itself}
+use Rattle.searches.proofs.Refusals.{refuses-first}
+use Rattle.searches.proofs.Level.{level-offered}
+use Rattle.searches.proofs.Marks.{either-judge}
+use Rattle.searches.proofs.Comparing.{exactly-one, neither-mns, turned-round, level-itself}
 use Rattle.traversal.specs.declared.Traversal.{Traversal}
-use Rattle.traversal.specs.State.{plan, walk, wellFormed, offers, setBelow, offeredSet}
+use Rattle.traversal.specs.State.{state, plan, walk, wellFormed, offers, offeredSet}
 use Rattle.traversal.specs.Compare.{compareTests, Comparable, stance, told, refused, compareAnswer}
-use Rattle.traversal.proofs.SetBelow.{member-setBelow}
-use Rattle.traversal.proofs.WellFormed.{parts}
-use Rattle.traversal.proofs.Answered.{report-refused, report-told}
+use Rattle.traversal.proofs.Answered.{offered-member}
+use Rattle.traversal.proofs.Telling.{report-refused, told-stance, told-able, refused-tests, turned-able, tests-turned}
 
-module _ (t : Traversal) (u v : ℕ) where
-  -- ---- refusals
+module _ (t : Traversal) where
+  abbrev s : Search
+  s = searchOf (t .kind .0)
 
-  -- 13, then 8, then 15, each on both points before the following one
-  pub compare-order : map (λ (test : ℕ × Bool). test .0) (compareTests t u v) ≡ 13 ∷ 8 ∷ 15 ∷ []
-  unfolding compareTests
-  compare-order = refl
+  -- v's label after the walk
+  abbrev label-after : ℕ → ℕ → Bool
+  label-after v = label (arcs (plan t)) (walk t) v
 
-  comparable-out : Accepts (compareTests t u v) → Comparable t u v
-  unfolding compareTests
-  comparable-out a = record {
-    formed = not-not (wellFormed t) (not-T (not (wellFormed t)) (a .0));
-    first-vertex = nleb→lt (t .n) u (not-T (leb (t .n) u) (λ x. a .1 .0 (or-inl (leb (t .n) u) (leb (t .n) v) x)));
-    second-vertex = nleb→lt (t .n) v (not-T (leb (t .n) v) (λ x. a .1 .0 (or-inr (leb (t .n) u) (leb (t .n) v) x)));
-    first-unplaced = λ x. a .1 .1 .0 (or-inl (placed (walk t) (t .k) u) (placed (walk t) (t .k) v) x);
-    second-unplaced = λ x. a .1 .1 .0 (or-inr (placed (walk t) (t .k) u) (placed (walk t) (t .k) v) x);
-  }
+  module _ (u v : ℕ) where
+    -- ---- refusals
 
-  comparable-in : Comparable t u v → Accepts (compareTests t u v)
-  unfolding compareTests
-  comparable-in able = (
-    λ x. T-not (wellFormed t) x (able .formed),
-    (
-      λ x. ⊎-elim (λ h. absurd (omega (arith, leb→le (t .n) u h, able .first-vertex))) (λ h. absurd (omega (arith, leb→le (t .n) v h, able .second-vertex)))
-          (or-out (leb (t .n) u) (leb (t .n) v) x),
-      (λ x. ⊎-elim (able .first-unplaced) (able .second-unplaced) (or-out (placed (walk t) (t .k) u) (placed (walk t) (t .k) v) x), tt),
-    ),
-  )
+    -- 13, then 8, then 15, each on both points before the following one
+    pub compare-order : map (λ (test : ℕ × Bool). test .0) (compareTests t u v) ≡ 13 ∷ 8 ∷ 15 ∷ []
+    unfolding compareTests
+    compare-order = refl
 
-  accepted : Comparable t u v → compareAnswer t u v ≡ told (stance t u v)
-  accepted able = sym (report-told t u v (sym (accepts-none (compareTests t u v) (comparable-in able))))
+    -- each refusal in its stated case and no other: the answer is refusal r exactly when r's test holds and no earlier one does
+    pub compare-refuses : (r : ℕ) → (compareAnswer t u v ≡ refused r) ↔ Refuses r (compareTests t u v)
+    compare-refuses r = (refused-tests t u v r, λ x. sym (report-refused t u v (sym (refuses-first (compareTests t u v) r x))))
 
-  -- each refusal in its stated case and no other: the answer is refusal r exactly when r's test holds and no earlier one does
-  pub compare-refuses : (r : ℕ) → (compareAnswer t u v ≡ refused r) ↔ Refuses r (compareTests t u v)
-  compare-refuses r = (
-    λ e. go e (accepts-or-refuses (compareTests t u v)),
-    λ x. sym (report-refused t u v (sym (refuses-first (compareTests t u v) r x))),
-  )
-    where
-      go : compareAnswer t u v ≡ refused r → Accepts (compareTests t u v) ⊎ ((q : ℕ) × Refuses q (compareTests t u v)) → Refuses r (compareTests t u v)
-      go e (inl a) = let clash : _≡_ {A = ℕ} 0 1 = cc (e, accepted (comparable-out a)) in absurd (omega arith)
-      go e (inr x) =
-          let same : x .0 ≡ r = cc (e, report-refused t u v (sym (refuses-first (compareTests t u v) (x .0) (x .1)))) in
-          subst (λ (q : ℕ). Refuses q (compareTests t u v)) same (x .1)
+    -- ---- the answer
 
-  -- ---- the answer
+    -- an answer is told exactly where nothing is refused and it is the one of the four that holds of the two labels
+    pub told-exactly : (x : Comparison) → (compareAnswer t u v ≡ told x) ↔ (Comparable t u v × T (stands s (t .k) (label-after u) (label-after v) x))
+    unfolding stance
+    told-exactly x = (
+      λ e. let both = told-able t u v x e in (both .0, exactly-one s (t .k) (label-after u) (label-after v) x .1 (both .1)),
+      λ both. told-stance t u v (both .0) ∙ ap told (exactly-one s (t .k) (label-after u) (label-after v) x .0 (both .1)),
+    )
 
-  -- the answer x holds of the labels that the two have after the walk
-  abbrev pub Holds : Comparison → Type 0
-  Holds x = T (stands (searchOf (t .kind .0)) (t .k) (label (arcs (plan t)) (walk t) u) (label (arcs (plan t)) (walk t) v) x)
+    -- 02: K6, neither comes with MNS alone
+    pub neither-in-mns : compareAnswer t u v ≡ told Comparison.Neither → s ≡ mns
+    unfolding stance
+    neither-in-mns e = neither-mns s (t .k) (label-after u) (label-after v) (told-able t u v Comparison.Neither e .1)
 
-  -- an answer is told exactly where nothing is refused and it is the one of the four that holds of the two labels
-  pub told-exactly : (x : Comparison)
-      → (compareAnswer t u v ≡ told x) ↔ (Comparable t u v × Holds x)
+    -- 02: K6, turning the two round turns ahead and behind,
+    pub told-turned : (x : Comparison) → compareAnswer t u v ≡ told x → compareAnswer t v u ≡ told (turned x)
+    unfolding stance
+    told-turned x e =
+        let both = told-able t u v x e in
+        told-stance t v u (turned-able t u v (both .0)) ∙ ap told (turned-round s (t .k) (label-after u) (label-after v) ∙ ap turned (both .1))
+
+    -- and a refusal stays
+    pub refused-turned : (r : ℕ) → compareAnswer t u v ≡ refused r → compareAnswer t v u ≡ refused r
+    refused-turned r e =
+        sym (report-refused t v u (sym (refuses-first (compareTests t v u) r (subst (Refuses r) (tests-turned t u v) (refused-tests t u v r e)))))
+
+  -- 02: K6, a point is level with itself
+  pub compare-itself : (v : ℕ) → Comparable t v v → compareAnswer t v v ≡ told Comparison.Level
   unfolding stance
-  told-exactly x = (
-    λ e. go e (accepts-or-refuses (compareTests t u v)),
-    λ both. accepted (both .0) ∙ ap told (of-labels .0 (both .1)),
-  )
-    where
-      of-labels : Holds x ↔ (stance t u v ≡ x)
-      of-labels = exactly-one (searchOf (t .kind .0)) (t .k) (label (arcs (plan t)) (walk t) u) (label (arcs (plan t)) (walk t) v) x
+  compare-itself v able = told-stance t v v able ∙ ap told (level-itself s (t .k) (label-after v))
 
-      go : compareAnswer t u v ≡ told x → Accepts (compareTests t u v) ⊎ ((q : ℕ) × Refuses q (compareTests t u v))
-          → Comparable t u v × Holds x
-      go e (inl a) = let able = comparable-out a in (able, of-labels .1 (cc (e, accepted able)))
-      go e (inr r) = let clash : _≡_ {A = ℕ} 0 1 = cc (e, report-refused t u v (sym (refuses-first (compareTests t u v) (r .0) (r .1)))) in absurd (omega arith)
+  -- ---- and who is offered
 
-  -- 02: K6, neither comes with MNS alone
-  pub neither-in-mns : compareAnswer t u v ≡ told Comparison.Neither → searchOf (t .kind .0) ≡ mns
-  neither-in-mns e =
-      let s = searchOf (t .kind .0) in
-      let c = label (arcs (plan t)) (walk t) u in
-      let b = label (arcs (plan t)) (walk t) v in
-      neither-mns s (t .k) c b (exactly-one s (t .k) c b Comparison.Neither .0 (told-exactly Comparison.Neither .0 e .1))
+  -- 02: K6, an unplaced point that is level with an offered one is offered
+  pub level-with-offered : (u v : ℕ) → compareAnswer t u v ≡ told Comparison.Level → T (member (offeredSet t) v) → T (member (offeredSet t) u)
+  unfolding stands offers
+  level-with-offered u v e o =
+      let both = told-exactly u v Comparison.Level .0 e in
+      let able = both .0 in
+      subst (λ (b : Bool). T b) (sym (offered-member t (able .formed) u))
+      (level-offered s (arcs (plan t)) (t .n) (walk t) (t .k) u v (able .first-vertex) (able .first-unplaced) (both .1)
+      (subst (λ (b : Bool). T b) (offered-member t (able .formed) v) o))
 
--- ---- the two turned round
-
-turned-able : (t : Traversal) (u v : ℕ) → Comparable t u v → Comparable t v u
-turned-able t u v able = record {
-  formed = able .formed;
-  first-vertex = able .second-vertex;
-  second-vertex = able .first-vertex;
-  first-unplaced = able .second-unplaced;
-  second-unplaced = able .first-unplaced;
-}
-
-tests-turned : (t : Traversal) (u v : ℕ) → compareTests t u v ≡ compareTests t v u
-unfolding compareTests
-tests-turned t u v =
-    ap₂ (λ (outside taken : Bool). (13, not (wellFormed t)) ∷ (8, outside) ∷ (15, taken) ∷ []) (or-comm (leb (t .n) u) (leb (t .n) v))
-    (or-comm (placed (walk t) (t .k) u) (placed (walk t) (t .k) v))
-
-module _ (t : Traversal) (u v : ℕ) where
-  -- 02: K6, turning the two round turns ahead and behind,
-  pub told-turned : (x : Comparison) → compareAnswer t u v ≡ told x → compareAnswer t v u ≡ told (turned x)
-  unfolding stance
-  told-turned x e =
-      let s = searchOf (t .kind .0) in
-      let c = label (arcs (plan t)) (walk t) u in
-      let b = label (arcs (plan t)) (walk t) v in
-      let both = told-exactly t u v x .0 e in
-      accepted t v u (turned-able t u v (both .0)) ∙ ap told (turned-round s (t .k) c b ∙ ap turned (exactly-one s (t .k) c b x .0 (both .1)))
-
-  -- and a refusal stays
-  pub refused-turned : (r : ℕ) → compareAnswer t u v ≡ refused r → compareAnswer t v u ≡ refused r
-  refused-turned r e = compare-refuses t v u r .1 (subst (Refuses r) (tests-turned t u v) (compare-refuses t u v r .0 e))
-
--- 02: K6, a point is level with itself
-pub compare-itself : (t : Traversal) (v : ℕ) → Comparable t v v → compareAnswer t v v ≡ told Comparison.Level
-unfolding stance
-compare-itself t v able = accepted t v v able ∙ ap told (level-itself (searchOf (t .kind .0)) (t .k) (label (arcs (plan t)) (walk t) v))
-
--- ---- and who is offered
-
-module _ (t : Traversal) (formed : T (wellFormed t)) (v : ℕ) where
-  member-offers : member (offeredSet t) v ≡ (ltb v (t .n) && offers t v)
-  unfolding offeredSet
-  member-offers =
-      ap (λ (set : ℕ). member set v) (cond-yes (wellFormed t) (setBelow (t .n) (offers t)) 0 formed)
-      ∙ member-setBelow (t .n) (parts t formed .points) (offers t) v
-
-  set-offered : T (member (offeredSet t) v) ↔ T (offers t v)
-  unfolding offers
-  set-offered = (
-    λ x. and-out (ltb v (t .n)) (offers t v) (subst (λ (b : Bool). T b) member-offers x) .1,
-    λ o. subst (λ (b : Bool). T b) (sym member-offers)
-        (and-in (ltb v (t .n)) (offers t v) (lt→ltb v (t .n) (offered-out (searchOf (t .kind .0)) (arcs (plan t)) (t .n) (walk t) (t .k) v o .vertex)) o),
+  -- an unplaced point is offered exactly when no comparison with another tells that it is behind
+  pub offered-unless-behind : (u : ℕ) → Comparable t u u
+      → T (member (offeredSet t) u) ↔ ((v : ℕ) → compareAnswer t u v ≡ told Comparison.Behind → ⊥)
+  unfolding stands offers
+  offered-unless-behind u able = (
+    λ o v e.
+        let both = told-exactly u v Comparison.Behind .0 e in
+        offered-out s (arcs (plan t)) (t .n) (walk t) (t .k) u (subst (λ (b : Bool). T b) (offered-member t (able .formed) u) o) .unbeaten v
+        (both .0 .second-vertex) (both .0 .second-unplaced) (both .1),
+    λ none. subst (λ (b : Bool). T b) (sym (offered-member t (able .formed) u)) (offered-in s (arcs (plan t)) (t .n) (walk t) (t .k) u (record {
+      vertex = able .first-vertex;
+      unplaced = able .first-unplaced;
+      unbeaten = λ v l free ahead. none v (told-exactly u v Comparison.Behind .1 (
+        record {
+          formed = able .formed;
+          first-vertex = able .first-vertex;
+          second-vertex = l;
+          first-unplaced = able .first-unplaced;
+          second-unplaced = free;
+        },
+        ahead,
+      ));
+    })),
   )
 
--- 02: K6, an unplaced point that is level with an offered one is offered
-pub level-with-offered : (t : Traversal) (u v : ℕ) → compareAnswer t u v ≡ told Comparison.Level → T (member (offeredSet t) v) → T (member (offeredSet t) u)
-unfolding stands offers
-level-with-offered t u v e o =
-    let both = told-exactly t u v Comparison.Level .0 e in
-    let able = both .0 in
-    set-offered t (able .formed) u .1
-    (level-offered (searchOf (t .kind .0)) (arcs (plan t)) (t .n) (walk t) (t .k) u v (able .first-vertex) (able .first-unplaced) (both .1)
-    (set-offered t (able .formed) v .0 o))
+-- ---- the mark
 
--- an unplaced point is offered exactly when no comparison with another tells that it is behind
-pub offered-unless-behind : (t : Traversal) (u : ℕ) → Comparable t u u
-    → T (member (offeredSet t) u) ↔ ((v : ℕ) → compareAnswer t u v ≡ told Comparison.Behind → ⊥)
-unfolding stands offers
-offered-unless-behind t u able = (
-  λ o v e.
-      let both = told-exactly t u v Comparison.Behind .0 e in
-      offered-out s arc (t .n) (walk t) (t .k) u (set-offered t (able .formed) u .0 o) .unbeaten v (both .0 .second-vertex) (both .0 .second-unplaced) (both .1),
-  λ none. set-offered t (able .formed) u .1 (offered-in s arc (t .n) (walk t) (t .k) u (record {
-    vertex = able .first-vertex;
-    unplaced = able .first-unplaced;
-    unbeaten = λ v l free ahead. none v (told-exactly t u v Comparison.Behind .1 (
-      record {
-        formed = able .formed;
-        first-vertex = able .first-vertex;
-        second-vertex = l;
-        first-unplaced = able .first-unplaced;
-        second-unplaced = free;
-      },
-      ahead,
-    ));
-  })),
-)
-  where
-    s : Search
-    s = searchOf (t .kind .0)
-
-    arc : ℕ → ℕ → Bool
-    arc = arcs (plan t)
+-- 02: K4, on a plan whose every link goes both ways the answer is the same under either mark
+pub either-compare : (kind : Kind) (mark mark′ : Mark) (n : ℕ) (rows : List ℕ) (k : ℕ) (ordering : List ℕ) → BothWays (take n rows) → (u v : ℕ)
+    → compareAnswer (state kind mark n rows k ordering) u v ≡ compareAnswer (state kind mark′ n rows k ordering) u v
+unfolding compareAnswer compareTests stance wellFormed plan walk
+either-compare kind mark mark′ n rows k ordering both u v = rw (either-judge (kind .0) mark mark′ (take n rows) both (take k ordering))

@@ -6,15 +6,14 @@
 -- Assumes nothing.
 use Prim.Native.Nat.{ℕ, zero, suc, _+_, _-_, _≤_, _<_}
 use mathlib.Core.Path.{_≡_, refl, sym, ap, _∙_, subst}
-use mathlib.Core.Bool.{Bool, _&&_}
+use mathlib.Core.Bool.{Bool}
 use mathlib.Core.Logic.{inl, inr}
 use mathlib.Core.List.{List, [], _∷_, _++_}
 use mathlib.Core.Option.{some}
 use native.Mathlib.Omega.{arith}
-use lib.Dec.{T, ltb, lt→ltb, eqb, eqb-refl, T-not}
+use lib.Dec.{T, eqb, eqb-refl, T-not}
 use lib.ListN.{length}
 use Rattle.bitset.specs.Word.{member}
-use Rattle.bitset.proofs.Tests.{and-in, and-out, same-test, cond-yes}
 use Rattle.bitset.proofs.Below.{last-same}
 use Rattle.searches.specs.Kind.{searchOf}
 use Rattle.searches.specs.Ordering.{arcs, at, IsOrdering, IsFullOrdering}
@@ -24,15 +23,14 @@ use Rattle.searches.specs.CarryOn.{choice, grow}
 use Rattle.searches.specs.declared.Mark.{Mark}
 use Rattle.searches.specs.Answer.{openTests, Accepts, judgeAnswer}
 use Rattle.searches.proofs.Ordering.{length-grown}
-use Rattle.searches.proofs.Run.{offered-out}
 use Rattle.searches.proofs.CarryOn.{chosen-offered}
 use Rattle.searches.proofs.Passing.{offered-grows, grows-offered}
 use Rattle.searches.proofs.Refusals.{refuses-first}
-use Rattle.searches.proofs.Answers.{valid-small, passes-accepts, accepted-ordering, ordering-accepted, judge-accepted}
+use Rattle.searches.proofs.Answers.{passes-accepts, accepted-ordering, ordering-accepted, judge-accepted}
 use Rattle.traversal.specs.declared.Traversal.{Traversal}
-use Rattle.traversal.specs.State.{wellFormed, offers, setBelow, offeredSet, placeTests, placeAnswer, grown}
+use Rattle.traversal.specs.State.{wellFormed, offeredSet, placeTests, placeAnswer, grown}
 use Rattle.traversal.specs.Moves.{holding, lastOffered, following}
-use Rattle.traversal.proofs.SetBelow.{member-setBelow}
+use Rattle.traversal.proofs.Answered.{offered-member}
 use Rattle.traversal.proofs.Holding.{Sound, distinct, passing, holding-formed, holding-offers, sound-grown, grown-offered}
 
 module _ (kind : ℕ) (mark : Mark) (rows : List ℕ) (valid : Accepts (openTests kind mark rows)) where
@@ -41,16 +39,8 @@ module _ (kind : ℕ) (mark : Mark) (rows : List ℕ) (valid : Accepts (openTest
 
   module _ (w : List ℕ) (sound : Sound kind mark rows valid w) where
     pub member-offered : (v : ℕ) → member (offeredSet (holding kind mark rows w)) v ≡ test w v
-    unfolding offeredSet holding
     member-offered v =
-        ap (λ (set : ℕ). member set v)
-        (cond-yes (wellFormed (holding kind mark rows w)) (setBelow (length rows) (offers (holding kind mark rows w))) 0 (holding-formed kind mark rows valid w sound))
-        ∙ member-setBelow (length rows) (valid-small kind mark rows valid) (offers (holding kind mark rows w)) v
-        ∙ ap (λ (b : Bool). ltb v (length rows) && b) (holding-offers kind mark rows valid w sound v)
-        ∙ same-test (ltb v (length rows) && test w v) (test w v) (λ t. and-out (ltb v (length rows)) (test w v) t .1)
-        (λ t.
-        and-in (ltb v (length rows)) (test w v)
-        (lt→ltb v (length rows) (offered-out (searchOf kind) (arcs rows) (length rows) w (length w) v t .vertex)) t)
+        offered-member (holding kind mark rows w) (holding-formed kind mark rows valid w sound) v ∙ holding-offers kind mark rows valid w sound v
 
     pub offered-passes : (v : ℕ) → T (test w v) → judgeAnswer kind mark rows (w ++ v ∷ []) ≡ passes
     offered-passes v t =

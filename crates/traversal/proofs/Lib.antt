@@ -4,6 +4,7 @@ pub mod WellFormed
 pub mod Answered
 pub mod Holding
 pub mod Following
+pub mod Telling
 pub mod Comparing
 pub mod Examples
 pub mod OpenWalk

@@ -23,7 +23,7 @@ use Rattle.traversal.specs.declared.Traversal.{Traversal}
 use Rattle.traversal.specs.State.{state, plan, walk, wellFormed, WellFormed}
 use Rattle.traversal.specs.Compare.{compareTests, told, reportOf}
 use Rattle.traversal.proofs.WellFormed.{surveyed-passes, surveyed-words, surveyed-columns, surveyed-consistent, well-formed-out, free-offers, compared-stance}
-use Rattle.traversal.proofs.Answered.{report-refused, report-told}
+use Rattle.traversal.proofs.Telling.{report-refused, report-told}
 use Rattle.traversal.proofs.comparison.compare.Statement.{statement}
 use Rattle.traversal.proofs.comparison.compare.Tie as tie
 
