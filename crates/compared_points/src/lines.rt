@@ -42,58 +42,47 @@ fn show_row(rows: &[u64], n: usize, p: usize) {
     }
 }
 
-fn show_eight_rows(rows: &[u64], n: usize, p: usize)
-    requires { ⌜ p ≤ 56 ⌝ }
-{
-    show_row(rows, n, p);
-    show_row(rows, n, p + 1);
-    show_row(rows, n, p + 2);
-    show_row(rows, n, p + 3);
-    show_row(rows, n, p + 4);
-    show_row(rows, n, p + 5);
-    show_row(rows, n, p + 6);
-    show_row(rows, n, p + 7);
-}
-
-fn show_rows(rows: &[u64], n: usize) {
-    show_eight_rows(rows, n, 0);
-    show_eight_rows(rows, n, 8);
-    show_eight_rows(rows, n, 16);
-    show_eight_rows(rows, n, 24);
-    show_eight_rows(rows, n, 32);
-    show_eight_rows(rows, n, 40);
-    show_eight_rows(rows, n, 48);
-    show_eight_rows(rows, n, 56);
-}
-
 fn show_place(places: &[u8], k: usize, p: usize) {
     if p < places.len() {
         show_entry(wide(places[p]), k, p);
     }
 }
 
-fn show_eight_places(places: &[u8], k: usize, p: usize)
-    requires { ⌜ p ≤ 56 ⌝ }
-{
-    show_place(places, k, p);
-    show_place(places, k, p + 1);
-    show_place(places, k, p + 2);
-    show_place(places, k, p + 3);
-    show_place(places, k, p + 4);
-    show_place(places, k, p + 5);
-    show_place(places, k, p + 6);
-    show_place(places, k, p + 7);
+// The rows of an open walk, or its places.
+enum List {
+    Rows,
+    Places,
 }
 
-fn show_places(places: &[u8], k: usize) {
-    show_eight_places(places, k, 0);
-    show_eight_places(places, k, 8);
-    show_eight_places(places, k, 16);
-    show_eight_places(places, k, 24);
-    show_eight_places(places, k, 32);
-    show_eight_places(places, k, 40);
-    show_eight_places(places, k, 48);
-    show_eight_places(places, k, 56);
+fn show_at(rows: &[u64], places: &[u8], list: List, used: usize, p: usize) {
+    match list {
+        List::Rows => show_row(rows, used, p),
+        List::Places => show_place(places, used, p),
+    }
+}
+
+fn show_eight(rows: &[u64], places: &[u8], list: List, used: usize, p: usize)
+    requires { ⌜ p ≤ 56 ⌝ }
+{
+    show_at(rows, places, list, used, p);
+    show_at(rows, places, list, used, p + 1);
+    show_at(rows, places, list, used, p + 2);
+    show_at(rows, places, list, used, p + 3);
+    show_at(rows, places, list, used, p + 4);
+    show_at(rows, places, list, used, p + 5);
+    show_at(rows, places, list, used, p + 6);
+    show_at(rows, places, list, used, p + 7);
+}
+
+fn show_list(rows: &[u64], places: &[u8], list: List, used: usize) {
+    show_eight(rows, places, list, used, 0);
+    show_eight(rows, places, list, used, 8);
+    show_eight(rows, places, list, used, 16);
+    show_eight(rows, places, list, used, 24);
+    show_eight(rows, places, list, used, 32);
+    show_eight(rows, places, list, used, 40);
+    show_eight(rows, places, list, used, 48);
+    show_eight(rows, places, list, used, 56);
 }
 
 // The line of an open walk.
@@ -109,9 +98,9 @@ pub fn show_walk(traversal: Traversal) {
     show(n as u64);
     show(k as u64);
     say(b" |");
-    show_rows(&rows, n);
+    show_list(&rows, &places, List::Rows, n);
     say(b" |");
-    show_places(&places, k);
+    show_list(&rows, &places, List::Places, k);
     say(b"\n");
 }
 

@@ -118,62 +118,42 @@ fn link_each(rows: &mut [u64], set: u64, u: usize) {
     link(rows, set, u, 7);
 }
 
-fn two_way(n: usize, links: u8, random: u64) -> [u64; 64] {
-    let mut rows = [0u64; 64];
-    let r = next(random);
-    link_each(&mut rows, drawn(n, links, r, 1), 1);
-    let r = next(r);
-    link_each(&mut rows, drawn(n, links, r, 2), 2);
-    let r = next(r);
-    link_each(&mut rows, drawn(n, links, r, 3), 3);
-    let r = next(r);
-    link_each(&mut rows, drawn(n, links, r, 4), 4);
-    let r = next(r);
-    link_each(&mut rows, drawn(n, links, r, 5), 5);
-    let r = next(r);
-    link_each(&mut rows, drawn(n, links, r, 6), 6);
-    let r = next(r);
-    link_each(&mut rows, drawn(n, links, r, 7), 7);
-    let r = next(r);
-    link_each(&mut rows, drawn(n, links, r, 8), 8);
-    rows
-}
-
 fn lead_to(rows: &mut [u64], set: u64, u: usize) {
     if u < rows.len() {
         rows[u] = set;
     }
 }
 
-fn one_way(n: usize, links: u8, random: u64) -> [u64; 64] {
-    let mut rows = [0u64; 64];
-    let r = next(random);
-    lead_to(&mut rows, drawn(n, links, r, 0), 0);
-    let r = next(r);
-    lead_to(&mut rows, drawn(n, links, r, 1), 1);
-    let r = next(r);
-    lead_to(&mut rows, drawn(n, links, r, 2), 2);
-    let r = next(r);
-    lead_to(&mut rows, drawn(n, links, r, 3), 3);
-    let r = next(r);
-    lead_to(&mut rows, drawn(n, links, r, 4), 4);
-    let r = next(r);
-    lead_to(&mut rows, drawn(n, links, r, 5), 5);
-    let r = next(r);
-    lead_to(&mut rows, drawn(n, links, r, 6), 6);
-    let r = next(r);
-    lead_to(&mut rows, drawn(n, links, r, 7), 7);
-    let r = next(r);
-    lead_to(&mut rows, drawn(n, links, r, 8), 8);
-    rows
+// The links of u: two-way, with the smaller ones of the set; one-way, to all of it.
+fn enter(rows: &mut [u64], mark: Mark, set: u64, u: usize) {
+    match mark {
+        Mark::TwoWay => link_each(rows, set, u),
+        Mark::OneWay => lead_to(rows, set, u),
+    }
 }
 
 // A plan of n points, at most nine; the other rows are 0.
 pub fn small(mark: Mark, n: usize, links: u8, random: u64) -> [u64; 64] {
-    match mark {
-        Mark::TwoWay => two_way(n, links, random),
-        Mark::OneWay => one_way(n, links, random),
-    }
+    let mut rows = [0u64; 64];
+    let r = next(random);
+    enter(&mut rows, mark, drawn(n, links, r, 0), 0);
+    let r = next(r);
+    enter(&mut rows, mark, drawn(n, links, r, 1), 1);
+    let r = next(r);
+    enter(&mut rows, mark, drawn(n, links, r, 2), 2);
+    let r = next(r);
+    enter(&mut rows, mark, drawn(n, links, r, 3), 3);
+    let r = next(r);
+    enter(&mut rows, mark, drawn(n, links, r, 4), 4);
+    let r = next(r);
+    enter(&mut rows, mark, drawn(n, links, r, 5), 5);
+    let r = next(r);
+    enter(&mut rows, mark, drawn(n, links, r, 6), 6);
+    let r = next(r);
+    enter(&mut rows, mark, drawn(n, links, r, 7), 7);
+    let r = next(r);
+    enter(&mut rows, mark, drawn(n, links, r, 8), 8);
+    rows
 }
 
 // The set with each number one smaller or one larger, round and round: the row after this one.
