@@ -12,7 +12,7 @@
 //!   judge, carry_on             the two calls, as the firmware sees them           [01: the calls]
 //!   open_walk                   the open walk, and its four calls
 //!   sheet                       the sheet: written, read and judged
-//!   charge                      what a walk is charged                             [02: K2]
+//!   charge                      what a walk is charged, by two rules for halves    [02: K2, K7]
 //!   way_back                    the way back from a point of a BFS walk            [02: K5]
 //!   stance                      how one of two unplaced points stands to the other [02: K6]
 
@@ -74,7 +74,7 @@ impl Graph {
 }
 
 /// A plan as the bytes that the calls take.
-fn bytes(rows: &[u64]) -> Vec<u8> {
+pub fn bytes(rows: &[u64]) -> Vec<u8> {
     rows.iter().flat_map(|row| row.to_le_bytes()).collect()
 }
 

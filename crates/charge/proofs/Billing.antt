@@ -1,7 +1,8 @@
--- What 02 asks of the charge, over the definitions that the promise of `charge` cites. Each theorem's comment says which sentence it is; the work is
--- done in the modules that the proofs cite. That nothing is altered: all lists are passed as `&`. That the call ends is part of its proof.
+-- What 02 asks of the charge, over the definitions that the promises of `charge` and `charge_halves_up` cite: `chargeToEvenAnswer` and `chargeAnswer`.
+-- Each theorem's comment says which sentence it is; the work is done in the modules that the proofs cite. That nothing is altered: all lists are passed
+-- as `&`. That the calls end is part of their proofs.
 -- Assumes nothing.
-use mathlib.Core.Path.{_≡_, refl, sym, ap, _∙_, subst}
+use mathlib.Core.Path.{_≡_, refl, sym, ap}
 use mathlib.Core.Logic.{_↔_}
 use mathlib.Core.Bool.{Bool}
 use mathlib.Core.List.{List, [], _∷_, map}
@@ -13,12 +14,12 @@ use Rattle.searches.specs.Violation.{Fails}
 use Rattle.searches.specs.declared.Mark.{Mark}
 use Rattle.searches.specs.Answer.{BothWays, openTests, judgeTests, firstRefusal, Accepts, Refuses, judgeAnswer}
 use Rattle.searches.proofs.Marks.{judge-tests}
-use Rattle.searches.proofs.Refusals.{refuses-first, accepts-none}
 use Rattle.charge.specs.Minutes.{minutesOf}
-use Rattle.charge.specs.Rounding.{distance, halvesUp, Rounds, rounded}
-use Rattle.charge.specs.Charge.{product, centsHalvesUp, largestMinutes, largestProduct, Malformed, testsAfterJudge, chargeTests, Chargeable}
-use Rattle.charge.specs.Charge.{cents, refused, chargeAnswer}
+use Rattle.charge.specs.Rounding.{distance, halvesUp, Even, halvesToEven, Rounds, RoundsToEven, halfway, rounded}
+use Rattle.charge.specs.Charge.{product, centsHalvesUp, centsToEven, largestMinutes, largestProduct, Malformed, testsAfterJudge, chargeTests, Chargeable}
+use Rattle.charge.specs.Charge.{cents, refused, billBy, chargeAnswer, chargeToEvenAnswer}
 use Rattle.charge.proofs.Rounding as rounding
+use Rattle.charge.proofs.Cents as rules
 use Rattle.charge.proofs.Charging as charging
 use Rattle.charge.proofs.Stated as stated
 
@@ -26,8 +27,7 @@ use Rattle.charge.proofs.Stated as stated
 
 -- the formula rounds to the nearest cent, halves up,
 pub charge-rounds : (x : ℕ) → Rounds halvesUp 60 x (centsHalvesUp x)
-unfolding centsHalvesUp rounded halvesUp
-charge-rounds x = rounding.rounded-rounds 60 (omega arith) x halvesUp
+charge-rounds = rules.halves-up-rounds
 
 -- and no other number is the nearest cent, halves up
 pub charge-only : (x q : ℕ) → Rounds halvesUp 60 x q → q ≡ centsHalvesUp x
@@ -40,6 +40,41 @@ within-thirty x = rounding.rounds-near 60 (omega arith) x halvesUp (centsHalvesU
 -- and of two numbers of cents of which this can be said it is the larger one
 pub largest-within-thirty : (x q : ℕ) → distance (60 * q) x ≤ 30 → q ≤ centsHalvesUp x
 largest-within-thirty x = rounding.halves-up-largest 60 (omega arith) x (centsHalvesUp x) (charge-rounds x)
+
+-- 02: K7, the other formula rounds to the nearest cent, and of two nearest to the even one,
+pub even-rounds : (x : ℕ) → RoundsToEven 60 x (centsToEven x)
+even-rounds x = rounding.to-even-in 60 (omega arith) x (centsToEven x) (rules.to-even-rounds x)
+
+-- and no other number is the nearest cent, and of two nearest the even one
+pub even-only : (x q : ℕ) → RoundsToEven 60 x q → q ≡ centsToEven x
+even-only x q r =
+    rounding.rounds-alone 60 (omega arith) x halvesToEven q (centsToEven x) (rounding.to-even-out 60 (omega arith) x q r) (rules.to-even-rounds x)
+
+-- this charge times 60 is never more than 30 away either, by the lemma that shows it for halves up
+pub even-within-thirty : (x : ℕ) → distance (60 * centsToEven x) x ≤ 30
+even-within-thirty x = rounding.rounds-near 60 (omega arith) x halvesToEven (centsToEven x) (rules.to-even-rounds x)
+
+-- it is never more than with halves up
+pub even-at-most : (x : ℕ) → centsToEven x ≤ centsHalvesUp x
+even-at-most x = largest-within-thirty x (centsToEven x) (even-within-thirty x)
+
+-- the two formulas differ exactly where the exact product is 60 q + 30 with q even,
+pub rules-differ : (x : ℕ) → (centsToEven x ≡ centsHalvesUp x → ⊥) ↔ ((q : ℕ) × (x ≡ 60 * q + 30) × Even q)
+rules-differ x = (rules.apart-halfway x, λ y same. let apart = rules.halfway-apart x (y .0) (y .1) (y .2) in omega (arith, apart .0, apart .1))
+
+-- and there by one cent
+pub differ-by-one : (x q : ℕ) → x ≡ 60 * q + 30 → Even q → (centsToEven x ≡ q) × (centsHalvesUp x ≡ q + 1)
+differ-by-one = rules.halfway-apart
+
+-- one minute at 30 cents an hour was 1 cent and becomes 0; three minutes stay at 2
+pub one-and-three-minutes : (centsHalvesUp (1 * 30) ≡ 1) × (centsToEven (1 * 30) ≡ 0) × (centsHalvesUp (3 * 30) ≡ 2) × (centsToEven (3 * 30) ≡ 2)
+unfolding centsHalvesUp centsToEven rounded halvesToEven halfway
+one-and-three-minutes = (refl, refl, refl, refl)
+
+-- of the largest product both make the same
+pub largest-alike : centsToEven largestProduct ≡ centsHalvesUp largestProduct
+unfolding centsHalvesUp centsToEven rounded halvesToEven halfway
+largest-alike = refl
 
 -- ---- refusals
 
@@ -55,10 +90,17 @@ module _ (kind : ℕ) (mark : Mark) (rows w minutes : List ℕ) (rate : ℕ) whe
 
   -- each refusal in its stated case and no other: the answer is refusal r exactly when r's test holds and no earlier one does
   pub charge-refuses : (r : ℕ) → (chargeAnswer kind mark rows w minutes rate ≡ refused r) ↔ Refuses r (chargeTests kind mark rows w minutes rate)
-  charge-refuses r = (
-    charging.refused-charge kind mark rows w minutes rate r,
-    λ x. sym (charging.charge-refused kind mark rows w minutes rate r (sym (refuses-first (chargeTests kind mark rows w minutes rate) r x))),
-  )
+  unfolding chargeAnswer
+  charge-refuses r = charging.bill-refused kind mark rows w minutes rate centsHalvesUp r
+
+  -- 02: K7, the other call likewise,
+  pub even-refuses : (r : ℕ) → (chargeToEvenAnswer kind mark rows w minutes rate ≡ refused r) ↔ Refuses r (chargeTests kind mark rows w minutes rate)
+  unfolding chargeToEvenAnswer
+  even-refuses r = charging.bill-refused kind mark rows w minutes rate centsToEven r
+
+  -- so that the two refuse alike, and what follows holds of either
+  pub refused-alike : (r : ℕ) → (chargeToEvenAnswer kind mark rows w minutes rate ≡ refused r) ↔ (chargeAnswer kind mark rows w minutes rate ≡ refused r)
+  refused-alike r = through (even-refuses r) (charge-refuses r .1, charge-refuses r .0)
 
   -- after judge's checks: what judge refuses is refused, with its number,
   pub refused-by-judge : (r : ℕ) → r < 18 → (chargeAnswer kind mark rows w minutes rate ≡ refused r) ↔ Refuses r (judgeTests kind mark rows w)
@@ -83,18 +125,40 @@ module _ (kind : ℕ) (mark : Mark) (rows w minutes : List ℕ) (rate : ℕ) whe
   -- a charge is given exactly where nothing is refused, and it is the exact product, rounded
   pub charged-exactly : (c : ℕ)
       → (chargeAnswer kind mark rows w minutes rate ≡ cents c) ↔ (Chargeable kind mark rows w minutes rate × (c ≡ centsHalvesUp (product (arcs rows) w minutes rate)))
-  charged-exactly c = (
-    charging.cents-charge kind mark rows w minutes rate c,
-    λ x.
-        sym (charging.charge-accepted kind mark rows w minutes rate (sym (accepts-none _ (charging.chargeable-in kind mark rows w minutes rate (x .0)))))
-        ∙ ap (λ (q : ℕ). cents q) (sym (x .1)),
-  )
+  unfolding chargeAnswer
+  charged-exactly c = charging.bill-cents kind mark rows w minutes rate centsHalvesUp c
+
+  -- with halves to the even cent likewise
+  pub even-exactly : (c : ℕ)
+      → (chargeToEvenAnswer kind mark rows w minutes rate ≡ cents c) ↔ (Chargeable kind mark rows w minutes rate × (c ≡ centsToEven (product (arcs rows) w minutes rate)))
+  unfolding chargeToEvenAnswer
+  even-exactly c = charging.bill-cents kind mark rows w minutes rate centsToEven c
 
   -- the charge times 60 is never more than 30 away from the exact product: of the call
   pub charged-within-thirty : (c : ℕ) → chargeAnswer kind mark rows w minutes rate ≡ cents c → distance (60 * c) (product (arcs rows) w minutes rate) ≤ 30
-  charged-within-thirty c e =
+  unfolding chargeAnswer
+  charged-within-thirty = charging.bill-within kind mark rows w minutes rate centsHalvesUp 30 within-thirty
+
+  -- with halves to the even cent likewise
+  pub even-charged-within-thirty : (c : ℕ) → chargeToEvenAnswer kind mark rows w minutes rate ≡ cents c
+      → distance (60 * c) (product (arcs rows) w minutes rate) ≤ 30
+  unfolding chargeToEvenAnswer
+  even-charged-within-thirty = charging.bill-within kind mark rows w minutes rate centsToEven 30 even-within-thirty
+
+  -- 02: K7, the answers of the two calls differ exactly where a charge is given and the exact product is 60 q + 30 with q even,
+  pub calls-differ : (chargeToEvenAnswer kind mark rows w minutes rate ≡ chargeAnswer kind mark rows w minutes rate → ⊥)
+      ↔ (Chargeable kind mark rows w minutes rate × ((q : ℕ) × (product (arcs rows) w minutes rate ≡ 60 * q + 30) × Even q))
+  unfolding chargeAnswer chargeToEvenAnswer
+  calls-differ =
       let x : ℕ = product (arcs rows) w minutes rate in
-      subst (λ (q : ℕ). distance (60 * q) x ≤ 30) (sym (charged-exactly c .0 e .1)) (within-thirty x)
+      through (charging.bills-differ kind mark rows w minutes rate centsToEven centsHalvesUp) (λ y. (y .0, rules-differ x .0 (y .1)), λ y. (y .0, rules-differ x .1 (y .1)))
+
+  -- and there by one cent
+  pub calls-differ-by-one : Chargeable kind mark rows w minutes rate → (q : ℕ) → product (arcs rows) w minutes rate ≡ 60 * q + 30 → Even q
+      → (chargeToEvenAnswer kind mark rows w minutes rate ≡ cents q) × (chargeAnswer kind mark rows w minutes rate ≡ cents (q + 1))
+  calls-differ-by-one able q half even =
+      let apart = differ-by-one (product (arcs rows) w minutes rate) q half even in
+      (even-exactly q .1 (able, sym (apart .0)), charged-exactly (q + 1) .1 (able, sym (apart .1)))
 
   -- nothing wraps: minutes, exact product and charge are at most those of 64 points of 999 minutes each, with a jump to all but the first, at the
   -- largest rate
@@ -106,7 +170,11 @@ module _ (kind : ℕ) (mark : Mark) (rows w minutes : List ℕ) (rate : ℕ) whe
       let bound = charging.product-bounded kind mark rows w minutes rate able in
       (charging.charged-minutes-bounded kind mark rows w minutes rate able, bound, omega arith)
 
--- the largest product needs more than 32 bits; with the 30 that rounding adds it is below 2^64, and `charge` computes in 64 bits
+  -- with halves to the even cent likewise
+  pub even-bounded : Chargeable kind mark rows w minutes rate → centsToEven (product (arcs rows) w minutes rate) ≤ centsToEven largestProduct
+  even-bounded able = omega (arith, even-at-most (product (arcs rows) w minutes rate), charged-bounded able .2, largest-alike)
+
+-- the largest product needs more than 32 bits; with the 30 that rounding adds it is below 2^64, and both calls compute in 64 bits
 pub largest-fits : (2 ^ 32 < largestProduct) × (largestProduct + 30 < 2 ^ 64)
 largest-fits = (omega arith, omega arith)
 
@@ -123,6 +191,15 @@ module _ (kind : ℕ) (mark mark′ : Mark) (rows : List ℕ) (both : BothWays r
   unfolding chargeTests
   charge-tests = rw (judge-tests kind mark mark′ rows both w)
 
+  either-bill : (round : ℕ → ℕ) → billBy round kind mark rows w minutes rate ≡ billBy round kind mark′ rows w minutes rate
+  unfolding billBy
+  either-bill round = rw (ap firstRefusal charge-tests, billBy)
+
   pub either-charge : chargeAnswer kind mark rows w minutes rate ≡ chargeAnswer kind mark′ rows w minutes rate
   unfolding chargeAnswer
-  either-charge = rw (ap firstRefusal charge-tests, chargeAnswer)
+  either-charge = either-bill centsHalvesUp
+
+  -- with halves to the even cent likewise
+  pub either-even-charge : chargeToEvenAnswer kind mark rows w minutes rate ≡ chargeToEvenAnswer kind mark′ rows w minutes rate
+  unfolding chargeToEvenAnswer
+  either-even-charge = either-bill centsToEven

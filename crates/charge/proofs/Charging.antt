@@ -2,14 +2,18 @@
 --   malformed-in, malformed-out              what 18's test means
 --   chargeable-in, chargeable-out            nothing is refused exactly where every condition holds
 --   length-bounded, entry-bounded, charged-minutes-bounded, product-bounded   how many positions, minutes and sixtieths of a cent there can then be
+-- whatever rounds the exact product:
 --   charge-refused, charge-accepted          the answer from the tests;   refused-charge, cents-charge   the tests from the answer
+--   bill-refused, bill-cents                 both ways at once
+--   bill-within                              how near a charge is to the exact product, if all that is rounded is so near
+--   bills-differ                             two ways to round give different answers exactly where a charge is given and they round it differently
 -- Assumes nothing.
-use mathlib.Core.Path.{_≡_, sym, subst}
-use mathlib.Core.Logic.{_⊎_, inl, inr}
+use mathlib.Core.Path.{_≡_, refl, sym, ap, _∙_, subst}
+use mathlib.Core.Logic.{_⊎_, inl, inr, _↔_}
 use mathlib.Core.Bool.{Bool, not}
 use mathlib.Core.List.{List}
 use mathlib.Core.Option.{none, some}
-use Prim.Native.Nat.{ℕ, _≤_, _<_}
+use Prim.Native.Nat.{ℕ, _*_, _≤_, _<_}
 use native.Mathlib.Nat.{mul-le-mul}
 use native.Mathlib.Omega.{arith}
 use lib.Dec.{T, ltb, eqb, ltb→lt, lt→ltb, nltb→le, eqb→eq, eqb-refl, not-T, T-not}
@@ -26,8 +30,9 @@ use Rattle.searches.proofs.Ordering.{ordering-fits}
 use Rattle.searches.proofs.Refusals.{refuses-first, accepts-none, accepts-or-refuses}
 use Rattle.searches.proofs.Answers.{accepts-both, both-accept, valid-small, isPass-out, accepted-ordering}
 use Rattle.charge.specs.Minutes.{minutesOf}
-use Rattle.charge.specs.Charge.{product, centsHalvesUp, largestMinutes, largestProduct, malformedMinutes, Malformed, testsAfterJudge, chargeTests, Chargeable}
-use Rattle.charge.specs.Charge.{cents, refused, chargeAnswer}
+use Rattle.charge.specs.Rounding.{distance}
+use Rattle.charge.specs.Charge.{product, largestMinutes, largestProduct, malformedMinutes, Malformed, testsAfterJudge, chargeTests, Chargeable}
+use Rattle.charge.specs.Charge.{cents, refused, billBy}
 use Rattle.charge.proofs.Adding.{minutes-bounded}
 
 -- ---- the list of minutes
@@ -112,36 +117,76 @@ module _ (kind : ℕ) (mark : Mark) (rows w minutes : List ℕ) (rate : ℕ) whe
   abbrev tests : List (ℕ × Bool)
   tests = chargeTests kind mark rows w minutes rate
 
-  pub charge-refused : (r : ℕ) → some r ≡ firstRefusal tests → refused r ≡ chargeAnswer kind mark rows w minutes rate
-  unfolding chargeAnswer
-  charge-refused r e = rw (sym e, chargeAnswer)
+  module _ (round : ℕ → ℕ) where
+    pub charge-refused : (r : ℕ) → some r ≡ firstRefusal tests → refused r ≡ billBy round kind mark rows w minutes rate
+    unfolding billBy
+    charge-refused r e = rw (sym e, billBy)
 
-  pub charge-accepted : none ≡ firstRefusal tests → cents (centsHalvesUp (product (arcs rows) w minutes rate)) ≡ chargeAnswer kind mark rows w minutes rate
-  unfolding chargeAnswer
-  charge-accepted e = rw (sym e, chargeAnswer)
+    pub charge-accepted : none ≡ firstRefusal tests → cents (round (product (arcs rows) w minutes rate)) ≡ billBy round kind mark rows w minutes rate
+    unfolding billBy
+    charge-accepted e = rw (sym e, billBy)
 
-  -- whatever the input, one of the two
-  answered : (Accepts tests × (cents (centsHalvesUp (product (arcs rows) w minutes rate)) ≡ chargeAnswer kind mark rows w minutes rate))
-      ⊎ ((r : ℕ) × Refuses r tests × (refused r ≡ chargeAnswer kind mark rows w minutes rate))
-  answered = go (accepts-or-refuses tests)
-    where
-      go : Accepts tests ⊎ ((q : ℕ) × Refuses q tests)
-          → (Accepts tests × (cents (centsHalvesUp (product (arcs rows) w minutes rate)) ≡ chargeAnswer kind mark rows w minutes rate))
-          ⊎ ((r : ℕ) × Refuses r tests × (refused r ≡ chargeAnswer kind mark rows w minutes rate))
-      go (inl a) = inl (a, charge-accepted (sym (accepts-none tests a)))
-      go (inr x) = inr (x .0, x .1, charge-refused (x .0) (sym (refuses-first tests (x .0) (x .1))))
+    -- whatever the input, one of the two
+    answered : (Accepts tests × (cents (round (product (arcs rows) w minutes rate)) ≡ billBy round kind mark rows w minutes rate))
+        ⊎ ((r : ℕ) × Refuses r tests × (refused r ≡ billBy round kind mark rows w minutes rate))
+    answered = go (accepts-or-refuses tests)
+      where
+        go : Accepts tests ⊎ ((q : ℕ) × Refuses q tests)
+            → (Accepts tests × (cents (round (product (arcs rows) w minutes rate)) ≡ billBy round kind mark rows w minutes rate))
+            ⊎ ((r : ℕ) × Refuses r tests × (refused r ≡ billBy round kind mark rows w minutes rate))
+        go (inl a) = inl (a, charge-accepted (sym (accepts-none tests a)))
+        go (inr x) = inr (x .0, x .1, charge-refused (x .0) (sym (refuses-first tests (x .0) (x .1))))
 
-  pub refused-charge : (r : ℕ) → chargeAnswer kind mark rows w minutes rate ≡ refused r → Refuses r tests
-  refused-charge r e =
-      elim answered [
-        | inl x ↦ let clash : _≡_ {A = ℕ} 0 1 = cc (x .1) in absurd (omega arith)
-        | inr x ↦ let same : x .0 ≡ r = cc (x .2) in subst (λ (q : ℕ). Refuses q tests) same (x .1)
-      ]
+    refused-charge : (r : ℕ) → billBy round kind mark rows w minutes rate ≡ refused r → Refuses r tests
+    refused-charge r e =
+        elim answered [
+          | inl x ↦ let clash : _≡_ {A = ℕ} 0 1 = cc (x .1) in absurd (omega arith)
+          | inr x ↦ let same : x .0 ≡ r = cc (x .2) in subst (λ (q : ℕ). Refuses q tests) same (x .1)
+        ]
 
-  pub cents-charge : (c : ℕ) → chargeAnswer kind mark rows w minutes rate ≡ cents c
-      → Chargeable kind mark rows w minutes rate × (c ≡ centsHalvesUp (product (arcs rows) w minutes rate))
-  cents-charge c e =
-      elim answered [
-        | inl x ↦ (chargeable-out (x .0), cc (x .1))
-        | inr x ↦ let clash : _≡_ {A = ℕ} 0 1 = cc (x .2) in absurd (omega arith)
-      ]
+    cents-charge : (c : ℕ) → billBy round kind mark rows w minutes rate ≡ cents c
+        → Chargeable kind mark rows w minutes rate × (c ≡ round (product (arcs rows) w minutes rate))
+    cents-charge c e =
+        elim answered [
+          | inl x ↦ (chargeable-out (x .0), cc (x .1))
+          | inr x ↦ let clash : _≡_ {A = ℕ} 0 1 = cc (x .2) in absurd (omega arith)
+        ]
+
+    pub bill-refused : (r : ℕ) → (billBy round kind mark rows w minutes rate ≡ refused r) ↔ Refuses r tests
+    bill-refused r = (refused-charge r, λ x. sym (charge-refused r (sym (refuses-first tests r x))))
+
+    pub bill-cents : (c : ℕ)
+        → (billBy round kind mark rows w minutes rate ≡ cents c) ↔ (Chargeable kind mark rows w minutes rate × (c ≡ round (product (arcs rows) w minutes rate)))
+    bill-cents c = (
+      cents-charge c,
+      λ x. sym (charge-accepted (sym (accepts-none tests (chargeable-in (x .0))))) ∙ ap (λ (q : ℕ). cents q) (sym (x .1)),
+    )
+
+    pub bill-within : (b : ℕ) → ((x : ℕ) → distance (60 * round x) x ≤ b) → (c : ℕ) → billBy round kind mark rows w minutes rate ≡ cents c
+        → distance (60 * c) (product (arcs rows) w minutes rate) ≤ b
+    bill-within b near c e =
+        let x : ℕ = product (arcs rows) w minutes rate in
+        subst (λ (q : ℕ). distance (60 * q) x ≤ b) (sym (cents-charge c e .1)) (near x)
+
+  module _ (round round′ : ℕ → ℕ) where
+    pub bills-differ : (billBy round kind mark rows w minutes rate ≡ billBy round′ kind mark rows w minutes rate → ⊥)
+        ↔ (Chargeable kind mark rows w minutes rate × (round (product (arcs rows) w minutes rate) ≡ round′ (product (arcs rows) w minutes rate) → ⊥))
+    bills-differ = (
+      λ differ. go differ (accepts-or-refuses tests),
+      λ x e. x .1 (agree (x .0) e),
+    )
+      where
+        go : (billBy round kind mark rows w minutes rate ≡ billBy round′ kind mark rows w minutes rate → ⊥) → Accepts tests ⊎ ((q : ℕ) × Refuses q tests)
+            → Chargeable kind mark rows w minutes rate × (round (product (arcs rows) w minutes rate) ≡ round′ (product (arcs rows) w minutes rate) → ⊥)
+        go differ (inl a) =
+            let accepted = sym (accepts-none tests a) in (
+              chargeable-out a,
+              λ same. differ (sym (charge-accepted round accepted) ∙ ap (λ (q : ℕ). cents q) same ∙ charge-accepted round′ accepted),
+            )
+        go differ (inr x) =
+            let first = sym (refuses-first tests (x .0) (x .1)) in
+            absurd (differ (sym (charge-refused round (x .0) first) ∙ charge-refused round′ (x .0) first))
+
+        agree : Chargeable kind mark rows w minutes rate → billBy round kind mark rows w minutes rate ≡ billBy round′ kind mark rows w minutes rate
+            → round (product (arcs rows) w minutes rate) ≡ round′ (product (arcs rows) w minutes rate)
+        agree able e = bill-cents round′ (round (product (arcs rows) w minutes rate)) .0 (sym e ∙ bill-cents round _ .1 (able, refl)) .1

@@ -1,4 +1,5 @@
 pub mod Rounding
+pub mod Cents
 pub mod Adding
 pub mod Charging
 pub mod Stated

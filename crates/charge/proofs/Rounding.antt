@@ -5,16 +5,19 @@
 --   rounded-rounds       the formula rounds
 --   rounds-alone         and only one number does
 --   halves-up-largest    with halves up it is the largest that is at most half of d away
+--   to-even-in, to-even-out   the rule `halvesToEven` gives the nearest, and of two nearest the even one
+--   halfway-even         where x / d is halfway between q and q + 1 and q is even, this is q
+--   below-halves-up      where a rule does not give what halves up gives, x / d is halfway, and it gives one less
 -- Assumes nothing.
 use mathlib.Core.Path.{_≡_, refl, sym, ap, _∙_, subst}
 use mathlib.Core.Logic.{_⊎_, inl, inr}
 use mathlib.Core.Bool.{Bool, true, false, cond, not, _&&_}
-use Prim.Native.Nat.{ℕ, suc, _+_, _-_, _*_, _/_, _≤_, _<_}
+use Prim.Native.Nat.{ℕ, suc, _+_, _-_, _*_, _/_, _%_, _≤_, _<_}
 use native.Mathlib.Nat.{mul-zero, mul-suc, mul-le-mul-left, div-add-mod, mod-lt}
 use native.Mathlib.Omega.{arith}
 use lib.Dec.{T, eqb, eqb→eq, eqb-refl, not-T, T-not}
 use Rattle.bitset.proofs.Tests.{and-in, and-out, not-not, below-or, three-ways}
-use Rattle.charge.specs.Rounding.{distance, Rule, halvesUp, Rounds, halfway, rounded}
+use Rattle.charge.specs.Rounding.{distance, Rule, halvesUp, Even, halvesToEven, Rounds, RoundsToEven, halfway, rounded}
 
 module _ (d : ℕ) (positive : 0 < d) (x : ℕ) where
   -- two multiples of d are d apart, or more
@@ -139,3 +142,46 @@ module _ (d : ℕ) (positive : 0 < d) (x : ℕ) where
           let next = both-near q p l (rounds-near halvesUp q of-q) near in
           absurd (of-q .down (ap (λ (i : ℕ). distance (d * i) x) (next .0) ∙ sym (next .1)) tt)
       go (inr h) = h
+
+  -- ---- halves to the even one
+
+  pub to-even-in : (q : ℕ) → Rounds halvesToEven d x q → RoundsToEven d x q
+  unfolding halvesToEven
+  to-even-in q r = record {
+    nearest = r .nearest;
+    even = λ p other same. go p other same (three-ways p q);
+  }
+    where
+      near : (p : ℕ) → distance (d * p) x ≡ distance (d * q) x → distance (d * p) x ≤ d / 2
+      near p same = omega (arith, rounds-near halvesToEven q r)
+
+      go : (p : ℕ) → (p ≡ q → ⊥) → distance (d * p) x ≡ distance (d * q) x → (p < q) ⊎ ((p ≡ q) ⊎ (q < p)) → Even q
+      go p other same (inl l) =
+          let next = both-near p q l (near p same) (rounds-near halvesToEven q r) in
+          subst Even (next .0) (eqb→eq (suc p % 2) 0 (r .up p (next .0) same))
+      go p other same (inr (inl e)) = absurd (other e)
+      go p other same (inr (inr l)) =
+          let next = both-near q p l (rounds-near halvesToEven q r) (near p same) in
+          let odd : suc q % 2 ≡ 0 → ⊥ = λ e. r .down (ap (λ (i : ℕ). distance (d * i) x) (next .0) ∙ same) (subst (λ (i : ℕ). T (eqb i 0)) (sym e) tt) in
+          omega (arith, odd)
+
+  pub to-even-out : (q : ℕ) → RoundsToEven d x q → Rounds halvesToEven d x q
+  unfolding halvesToEven
+  to-even-out q r = record {
+    nearest = r .nearest;
+    up = λ p e same. subst (λ (i : ℕ). T (eqb (i % 2) 0)) (sym e) (subst (λ (i : ℕ). T (eqb i 0)) (sym (r .even p (λ same′. omega arith) same)) tt);
+    down = λ same t. let next : suc q % 2 ≡ 0 = eqb→eq (suc q % 2) 0 t in omega (arith, r .even (suc q) (λ e. omega arith) same);
+  }
+
+  pub halfway-even : (q : ℕ) → 2 * x ≡ 2 * (d * q) + d → Even q → RoundsToEven d x q
+  unfolding distance
+  halfway-even q half even = record { nearest = near-nearest q (omega arith); even = λ p other same. even }
+
+  pub below-halves-up : (rule : Rule) (p q : ℕ) → Rounds rule d x p → Rounds halvesUp d x q → (p ≡ q → ⊥) → (suc p ≡ q) × (2 * x ≡ 2 * (d * p) + d)
+  unfolding distance
+  below-halves-up rule p q of-p of-q differ =
+      let most = halves-up-largest q of-q p (rounds-near rule p of-p) in
+      let below : p < q = omega arith in
+      let next = both-near p q below (rounds-near rule p of-p) (rounds-near halvesUp q of-q) in
+      let last : d * q ≡ d * p + d = ap (λ (i : ℕ). d * i) (sym (next .0)) ∙ mul-suc d p in
+      (next .0, omega (arith, next .1))

@@ -1,5 +1,5 @@
-// The charge for an ordering: its minutes at an hourly rate, to the nearest cent. On lists that the caller owns, for every kind, plan, list and
-// rate there can be. No function here alters a list.
+// The charge for an ordering: its minutes at an hourly rate, to the nearest cent, by one of two rules for halves of a cent. On lists that the caller
+// owns, for every kind, plan, list and rate there can be. No function here alters a list.
 use searches::Judgement;
 use searches::Kind;
 use searches::Mark;
@@ -14,7 +14,8 @@ ghost use lib.ListN.{length};
 ghost use Rattle.searches.specs.Ordering.{arcs, at};
 ghost use Rattle.searches.specs.Answer.{firstRefusal, refusalOf};
 ghost use Rattle.charge.specs.Minutes.{jumpMinutes, minutesOf};
-ghost use Rattle.charge.specs.Charge.{centsHalvesUp, largestProduct, malformedMinutes, testsAfterJudge, chargeTests, chargeAnswer, billOf};
+ghost use Rattle.charge.specs.Charge.{centsHalvesUp, centsToEven, centsBy, largestProduct, malformedMinutes, testsAfterJudge, chargeTests};
+ghost use Rattle.charge.specs.Charge.{billBy, chargeAnswer, chargeToEvenAnswer, billOf};
 
 // What charging for an ordering answers.
 pub enum Charged {
@@ -22,9 +23,15 @@ pub enum Charged {
     Refused(Refusal),
 }
 
+// The rule for halves of a cent.
+enum Halves {
+    Up,
+    ToEven,
+}
+
 // The charge, in cents, for an ordering that passes the search `kind`. The minutes of its vertices are those in `minutes`, entry v for vertex v, and
 // 7 more for each vertex after the first to which the one placed directly before it does not lead. Minutes times `rate`, in cents an hour, divided by
-// 60, is rounded to the nearest cent, halves up. Everything else is refused (1 to 6, 8, 9, 18, 19, 20; 5 for two-way graphs only).
+// 60, is rounded to the nearest cent, halves to the even cent. Everything else is refused (1 to 6, 8, 9, 18, 19, 20; 5 for two-way graphs only).
 // Alters nothing.
 pub fn charge(
     kind: Kind,
@@ -34,14 +41,44 @@ pub fn charge(
     minutes: &[u16],
     rate: u64,
 ) -> Charged
+    ensures { λ r. ⌜ billOf r ≡ chargeToEvenAnswer (kind .0) mark (now (rows .entry)) (now (ordering .entry)) (now (minutes .entry)) rate ⌝ }
+{
+    bill_by(kind, mark, rows, ordering, minutes, rate, Halves::ToEven)
+}
+
+// The charge by the older rule, halves up, so that old bills can be computed again. Minutes, product and refusals are those of `charge`.
+// Alters nothing.
+pub fn charge_halves_up(
+    kind: Kind,
+    mark: Mark,
+    rows: &[u64],
+    ordering: &[u8],
+    minutes: &[u16],
+    rate: u64,
+) -> Charged
     ensures { λ r. ⌜ billOf r ≡ chargeAnswer (kind .0) mark (now (rows .entry)) (now (ordering .entry)) (now (minutes .entry)) rate ⌝ }
+{
+    bill_by(kind, mark, rows, ordering, minutes, rate, Halves::Up)
+}
+
+// The charge with either rule for halves. What is refused and the exact product do not depend on the rule.
+fn bill_by(
+    kind: Kind,
+    mark: Mark,
+    rows: &[u64],
+    ordering: &[u8],
+    minutes: &[u16],
+    rate: u64,
+    halves: Halves,
+) -> Charged
+    ensures { λ r. ⌜ billOf r ≡ billBy (centsBy halves) (kind .0) mark (now (rows .entry)) (now (ordering .entry)) (now (minutes .entry)) rate ⌝ }
 {
     let checked = charge_refusal(kind, mark, rows, ordering, minutes, rate);
     if let Outcome::Refused(refusal) = checked {
         return Charged::Refused(refusal);
     }
     let spent = minutes_of(rows, ordering, minutes);
-    Charged::Cents(cents_halves_up(spent * rate))
+    Charged::Cents(cents_by(spent * rate, halves))
 }
 
 // The first of refusals 1 to 6, 8, 9, 18, 19 and 20 that applies, else `Done`.
@@ -144,10 +181,34 @@ fn jump_minutes(rows: &[u64], ordering: &[u8], position: Position) -> u64
     }
 }
 
-// The exact product, in sixtieths of a cent, rounded to the nearest cent, halves up. The largest product takes 33 bits.
+// The exact product, in sixtieths of a cent, rounded to the nearest cent. The largest product takes 33 bits.
+fn cents_by(product: u64, halves: Halves) -> u64
+    requires { ⌜ product ≤ largestProduct ⌝ }
+    ensures { λ r. ⌜ r ≡ centsBy halves product ⌝ }
+{
+    match halves {
+        Halves::Up => cents_halves_up(product),
+        Halves::ToEven => cents_to_even(product),
+    }
+}
+
+// Halves up.
 fn cents_halves_up(product: u64) -> u64
     requires { ⌜ product ≤ largestProduct ⌝ }
     ensures { λ r. ⌜ r ≡ centsHalvesUp product ⌝ }
 {
     (product + 30) / 60
+}
+
+// Halves to the even cent: as halves up, but one less where the product is halfway between two cents and the upper one is odd.
+fn cents_to_even(product: u64) -> u64
+    requires { ⌜ product ≤ largestProduct ⌝ }
+    ensures { λ r. ⌜ r ≡ centsToEven product ⌝ }
+{
+    let up = cents_halves_up(product);
+    if product % 60 == 30 && up % 2 == 1 {
+        up - 1
+    } else {
+        up
+    }
 }

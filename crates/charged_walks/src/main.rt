@@ -1,10 +1,13 @@
-// Walks charged from a fixed list of calls: for each kind on plans in one piece and in two, on one-way plans, and on plans whose links all go both
-// ways under either mark, at several rates; halves of a cent; refused calls, each with everything wrong that is tried later; the largest charge there
-// is; a plan without points.
-// A line for each call: the kind, the mark (0 two-way, 1 one-way), how many points, places and minutes there are, the rate, the answer (0, or a
-// refusal's number) and the cents.
-use charge::Charged;
-use searches::Kind;
+// Walks charged from a fixed list of calls, each with halves to the even cent and with halves up: for each kind on plans in one piece and in two, on
+// one-way plans, and on plans whose links all go both ways under either mark, at several rates; halves of a cent, and every remainder of 60 above an
+// even and an odd number of cents, with small and with large products; refused calls, each with everything wrong that is tried later; the largest
+// charge there is; a plan without points.
+// A line for the two calls: the kind, the mark (0 two-way, 1 one-way), how many points, places and minutes there are, the rate, then of `charge` and
+// of `charge_halves_up` the answer (0, or a refusal's number) and the cents.
+mod lines;
+mod products;
+
+use crate::lines::play;
 use searches::Mark;
 
 // The links 0-1, 0-2, 1-3.
@@ -38,108 +41,6 @@ const FAILING: [u8; 2] = [0, 2];
 const MINUTES: [u16; 4] = [10, 20, 5, 30];
 
 const LONG: [u16; 5] = [999, 0, 1, 998, 7];
-
-// The points 0 to 63.
-const ALL: [u8; 64] = [
-    0,
-    1,
-    2,
-    3,
-    4,
-    5,
-    6,
-    7,
-    8,
-    9,
-    10,
-    11,
-    12,
-    13,
-    14,
-    15,
-    16,
-    17,
-    18,
-    19,
-    20,
-    21,
-    22,
-    23,
-    24,
-    25,
-    26,
-    27,
-    28,
-    29,
-    30,
-    31,
-    32,
-    33,
-    34,
-    35,
-    36,
-    37,
-    38,
-    39,
-    40,
-    41,
-    42,
-    43,
-    44,
-    45,
-    46,
-    47,
-    48,
-    49,
-    50,
-    51,
-    52,
-    53,
-    54,
-    55,
-    56,
-    57,
-    58,
-    59,
-    60,
-    61,
-    62,
-    63,
-];
-
-fn show(n: u64) {
-    io::write_all(1, b" ");
-    io::print_decimal(1, n);
-}
-
-fn number(mark: Mark) -> u64 {
-    match mark {
-        Mark::TwoWay => 0,
-        Mark::OneWay => 1,
-    }
-}
-
-// One call, and its line.
-fn play(kind: u8, mark: Mark, rows: &[u64], ordering: &[u8], minutes: &[u16], rate: u64) {
-    io::print_decimal(1, kind as u64);
-    show(number(mark));
-    show(rows.len() as u64);
-    show(ordering.len() as u64);
-    show(minutes.len() as u64);
-    show(rate);
-    let charged = charge::charge(Kind(kind), mark, rows, ordering, minutes, rate);
-    match charged {
-        Charged::Cents(cents) => {
-            show(0);
-            show(cents);
-        }
-        Charged::Refused(refusal) => {
-            show(checks::number::number(refusal) as u64);
-            show(0);
-        }
-    }
-    io::write_all(1, b"\n");
-}
 
 // A walk at several rates, among them the largest, and one above it.
 fn rated(kind: u8, mark: Mark, rows: &[u64], ordering: &[u8], minutes: &[u16]) {
@@ -198,28 +99,6 @@ fn played(kind: u8) {
     one_way(kind);
 }
 
-// A walk of one point, for so many minutes.
-fn single(minutes: u16, rate: u64) {
-    let rows = [0u64; 1];
-    let ordering = [0u8; 1];
-    let list = [minutes; 1];
-    play(0, Mark::TwoWay, &rows, &ordering, &list, rate);
-}
-
-// Halves of a cent, products just below and just above one, and the longest point at the highest rate.
-fn halves() {
-    single(1, 29);
-    single(1, 30);
-    single(1, 31);
-    single(3, 29);
-    single(3, 30);
-    single(3, 31);
-    single(5, 30);
-    single(1, 90);
-    single(999, 30);
-    single(999, 99999);
-}
-
 // A walk on the ring with another first row, with a list of minutes that is too short and has entries above 999, and with a rate that is too high.
 fn wrong(mark: Mark, first_row: u64, ordering: &[u8]) {
     let mut rows = RING;
@@ -272,14 +151,6 @@ fn refused_bills(mark: Mark) {
     billed(mark, &failing[..1], &minutes, 99999);
 }
 
-// 64 points by themselves, all of them walked: without a link all but the first are jumped to.
-fn largest(kind: u8, mark: Mark) {
-    let rows = [0u64; 64];
-    let all = ALL;
-    let minutes = [999u16; 64];
-    play(kind, mark, &rows, &all, &minutes, 99999);
-}
-
 // No points at all.
 fn empty(kind: u8, mark: Mark) {
     let rows = [0u64; 0];
@@ -296,19 +167,21 @@ fn main() {
     played(4);
     played(5);
     played(6);
-    halves();
+    products::halves();
+    products::small_products();
+    products::large_products();
     refused_walks(Mark::TwoWay);
     refused_walks(Mark::OneWay);
     refused_bills(Mark::TwoWay);
     refused_bills(Mark::OneWay);
-    largest(0, Mark::TwoWay);
-    largest(1, Mark::TwoWay);
-    largest(2, Mark::TwoWay);
-    largest(3, Mark::TwoWay);
-    largest(4, Mark::TwoWay);
-    largest(5, Mark::TwoWay);
-    largest(6, Mark::TwoWay);
-    largest(6, Mark::OneWay);
+    products::largest(0, Mark::TwoWay);
+    products::largest(1, Mark::TwoWay);
+    products::largest(2, Mark::TwoWay);
+    products::largest(3, Mark::TwoWay);
+    products::largest(4, Mark::TwoWay);
+    products::largest(5, Mark::TwoWay);
+    products::largest(6, Mark::TwoWay);
+    products::largest(6, Mark::OneWay);
     empty(0, Mark::TwoWay);
     empty(6, Mark::TwoWay);
     empty(6, Mark::OneWay);

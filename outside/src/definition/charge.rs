@@ -1,10 +1,11 @@
 //! The charge for a walk, from the sentences of 02.
 //!
 //!   minutes_of      the placed points' minutes, and 7 for each jump               [02: K2]
-//!   nearest_cent    sixtieths of a cent as cents: the nearest, halves up
+//!   Halves          which cent a half goes to                                     [02: K2, K7]
+//!   nearest_cent    sixtieths of a cent as cents: the nearest, halves by the rule
 //!   charge          the cents, or the refusal's number
 
-use std::cmp::Reverse;
+use std::cmp::Ordering;
 
 use super::{begins_run, bytes, first_of, judge_refusal, Graph, Kind, Mark, Vertex};
 
@@ -16,13 +17,26 @@ pub fn minutes_of(graph: &Graph, walk: &[u8], minutes: &[u16]) -> u64 {
     own + 7 * walk.windows(2).filter(jump).count() as u64
 }
 
-/// Of the whole cents below and above, the nearer one; the larger one if both are as near.
-pub fn nearest_cent(sixtieths: u64) -> u64 {
-    let below = sixtieths / 60;
-    let best = [below, below + 1]
-        .into_iter()
-        .min_by_key(|&cents| ((60 * cents).abs_diff(sixtieths), Reverse(cents)));
-    best.expect("there are two")
+/// Which of two nearest cents is taken.
+#[derive(Clone, Copy, PartialEq, Eq, Debug)]
+pub enum Halves {
+    /// The even one.
+    ToEven,
+    /// The larger one.
+    Up,
+}
+
+/// Of the whole cents below and above, the nearer one; if both are as near, the rule's.
+pub fn nearest_cent(sixtieths: u64, halves: Halves) -> u64 {
+    let away = |cents: u64| (60 * cents).abs_diff(sixtieths);
+    let (below, above) = (sixtieths / 60, sixtieths / 60 + 1);
+    match away(below).cmp(&away(above)) {
+        Ordering::Less => below,
+        Ordering::Greater => above,
+        Ordering::Equal if halves == Halves::Up => above,
+        Ordering::Equal if below % 2 == 0 => below,
+        Ordering::Equal => above,
+    }
 }
 
 pub fn charge(
@@ -32,6 +46,7 @@ pub fn charge(
     walk: &[u8],
     minutes: &[u16],
     rate: u64,
+    halves: Halves,
 ) -> Result<u64, u32> {
     let plan = bytes(rows);
     let graph = Graph::from_plan(&plan);
@@ -45,7 +60,7 @@ pub fn charge(
     };
     match judge_refusal(kind, mark, &plan, walk).or_else(refusal_after_judge) {
         Some(number) => Err(number),
-        None => Ok(nearest_cent(minutes_of(&graph, walk, minutes) * rate)),
+        None => Ok(nearest_cent(minutes_of(&graph, walk, minutes) * rate, halves)),
     }
 }
 

@@ -1,9 +1,11 @@
-//! Group h: what the program of the crate `charged_walks` prints, line by line. The list of calls is the program's.
+//! Group h: what the program of the crate `charged_walks` prints, line by line. The list of calls is the program's; that
+//! it meets every remainder of 60, above an even and above an odd number of cents, is checked here.
 
+use std::collections::BTreeSet;
 use std::fmt::Write;
 
-use outside::definition::charge::charge;
-use outside::definition::{Kind, Mark, GENERIC, KINDS, MARKS, MCS};
+use outside::definition::charge::{charge, minutes_of, Halves};
+use outside::definition::{bytes, Graph, Kind, Mark, GENERIC, KINDS, MARKS, MCS};
 
 use crate::printed;
 
@@ -48,18 +50,21 @@ type Plan<'a> = (Mark, &'a [u64]);
 impl Lines {
     fn charge(&mut self, kind: Kind, plan: Plan, walk: &[u8], minutes: &[u16], rate: u64) {
         let (mark, rows) = plan;
-        let (answer, cents) = match charge(kind, mark, rows, walk, minutes, rate) {
-            Ok(cents) => (0, cents),
-            Err(number) => (number, 0),
-        };
-        let mark = match mark {
+        let number = match mark {
             Mark::TwoWay => 0,
             Mark::OneWay => 1,
         };
         let (n, k, m) = (rows.len(), walk.len(), minutes.len());
-        writeln!(self.text, "{kind} {mark} {n} {k} {m} {rate} {answer} {cents}")
-            .expect("a string takes any line");
-        self.calls += 1;
+        write!(self.text, "{kind} {number} {n} {k} {m} {rate}").expect("a string takes any text");
+        for halves in [Halves::ToEven, Halves::Up] {
+            let (answer, cents) = match charge(kind, mark, rows, walk, minutes, rate, halves) {
+                Ok(cents) => (0, cents),
+                Err(number) => (number, 0),
+            };
+            write!(self.text, " {answer} {cents}").expect("a string takes any text");
+            self.calls += 1;
+        }
+        self.text.push('\n');
     }
 
     fn rated(&mut self, kind: Kind, plan: Plan, walk: &[u8], minutes: &[u16]) {
@@ -88,6 +93,29 @@ impl Lines {
             self.rated(kind, (Mark::OneWay, &ROUND), &walk, &MINUTES);
         }
         self.rated(kind, (Mark::TwoWay, &DOWN), &UPSTREAM, &MINUTES);
+    }
+
+    /// The exact products have every remainder of 120: every remainder of 60, above an even and above an odd number of
+    /// cents.
+    fn rates_in_a_row(&mut self, rows: &[u64], walk: &[u8], minutes: &[u16], first: u64) {
+        let rates = first..first + 128;
+        let spent = minutes_of(&Graph::from_plan(&bytes(rows)), walk, minutes);
+        let remainders: BTreeSet<u64> = rates.clone().map(|rate| spent * rate % 120).collect();
+        assert_eq!(remainders.len(), 120);
+        for rate in rates {
+            self.charge(GENERIC, (Mark::TwoWay, rows), walk, minutes, rate);
+        }
+    }
+
+    fn small_products(&mut self) {
+        self.rates_in_a_row(&[0], &[0], &[1], 0);
+    }
+
+    fn large_products(&mut self) {
+        let all: Vec<u8> = (0..64).collect();
+        let mut minutes = [999; 64];
+        minutes[0] = 995;
+        self.rates_in_a_row(&[0; 64], &all, &minutes, 99_840);
     }
 
     fn refused_walks(&mut self, mark: Mark) {
@@ -132,6 +160,8 @@ pub fn compare() -> u64 {
     for (minutes, rate) in SINGLE {
         lines.charge(GENERIC, (Mark::TwoWay, &[0]), &[0], &[minutes], rate);
     }
+    lines.small_products();
+    lines.large_products();
     MARKS.into_iter().for_each(|mark| lines.refused_walks(mark));
     MARKS.into_iter().for_each(|mark| lines.refused_bills(mark));
     for kind in KINDS {
