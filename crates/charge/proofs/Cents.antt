@@ -2,7 +2,7 @@
 --   halves-up-rounds, to-even-rounds   each formula rounds by its rule
 --   halfway-apart                      at 60 q + 30, with q even, the rules give q and q + 1
 --   apart-halfway                      they differ nowhere else
---   to-even-less, to-even-same         halves to the even cent from halves up: 1 less where that is halfway and odd, else the same
+--   to-even-less, to-even-same         from halves up to halves to the even cent: 1 less where x is halfway between two cents and the upper is odd
 -- Assumes nothing.
 use mathlib.Core.Path.{_≡_}
 use mathlib.Core.Logic.{_⊎_, inl, inr}

@@ -5,7 +5,8 @@
 --   rounded-rounds       the formula rounds
 --   rounds-alone         and only one number does
 --   halves-up-largest    with halves up it is the largest that is at most half of d away
---   to-even-in, to-even-out   the rule `halvesToEven` gives the nearest, and of two nearest the even one
+--   even-up-in, even-up-out   the rule `halvesToEven` rounds up exactly where the larger one is even
+--   to-even-in, to-even-out   with this rule, what is rounded is the nearest, and of two nearest the even one; and only then
 --   halfway-even         where x / d is halfway between q and q + 1 and q is even, this is q
 --   below-halves-up      where a rule does not give what halves up gives, x / d is halfway, and it gives one less
 -- Assumes nothing.
@@ -18,6 +19,15 @@ use native.Mathlib.Omega.{arith}
 use lib.Dec.{T, eqb, eqb→eq, eqb-refl, not-T, T-not}
 use Rattle.bitset.proofs.Tests.{and-in, and-out, not-not, below-or, three-ways}
 use Rattle.charge.specs.Rounding.{distance, Rule, halvesUp, Even, halvesToEven, Rounds, RoundsToEven, halfway, rounded}
+
+module _ (p : ℕ) where
+  pub even-up-in : Even (suc p) → T (halvesToEven p)
+  unfolding halvesToEven
+  even-up-in e = subst (λ (i : ℕ). T (eqb i 0)) (sym e) tt
+
+  pub even-up-out : T (halvesToEven p) → Even (suc p)
+  unfolding halvesToEven
+  even-up-out t = eqb→eq (suc p % 2) 0 t
 
 module _ (d : ℕ) (positive : 0 < d) (x : ℕ) where
   -- two multiples of d are d apart, or more
@@ -146,7 +156,6 @@ module _ (d : ℕ) (positive : 0 < d) (x : ℕ) where
   -- ---- halves to the even one
 
   pub to-even-in : (q : ℕ) → Rounds halvesToEven d x q → RoundsToEven d x q
-  unfolding halvesToEven
   to-even-in q r = record {
     nearest = r .nearest;
     even = λ p other same. go p other same (three-ways p q);
@@ -157,20 +166,19 @@ module _ (d : ℕ) (positive : 0 < d) (x : ℕ) where
 
       go : (p : ℕ) → (p ≡ q → ⊥) → distance (d * p) x ≡ distance (d * q) x → (p < q) ⊎ ((p ≡ q) ⊎ (q < p)) → Even q
       go p other same (inl l) =
-          let next = both-near p q l (near p same) (rounds-near halvesToEven q r) in
-          subst Even (next .0) (eqb→eq (suc p % 2) 0 (r .up p (next .0) same))
+          let next = both-near p q l (near p same) (near q refl) in
+          subst Even (next .0) (even-up-out p (r .up p (next .0) same))
       go p other same (inr (inl e)) = absurd (other e)
       go p other same (inr (inr l)) =
-          let next = both-near q p l (rounds-near halvesToEven q r) (near p same) in
-          let odd : suc q % 2 ≡ 0 → ⊥ = λ e. r .down (ap (λ (i : ℕ). distance (d * i) x) (next .0) ∙ same) (subst (λ (i : ℕ). T (eqb i 0)) (sym e) tt) in
+          let next = both-near q p l (near q refl) (near p same) in
+          let odd : Even (suc q) → ⊥ = λ e. r .down (ap (λ (i : ℕ). distance (d * i) x) (next .0) ∙ same) (even-up-in q e) in
           omega (arith, odd)
 
   pub to-even-out : (q : ℕ) → RoundsToEven d x q → Rounds halvesToEven d x q
-  unfolding halvesToEven
   to-even-out q r = record {
     nearest = r .nearest;
-    up = λ p e same. subst (λ (i : ℕ). T (eqb (i % 2) 0)) (sym e) (subst (λ (i : ℕ). T (eqb i 0)) (sym (r .even p (λ same′. omega arith) same)) tt);
-    down = λ same t. let next : suc q % 2 ≡ 0 = eqb→eq (suc q % 2) 0 t in omega (arith, r .even (suc q) (λ e. omega arith) same);
+    up = λ p e same. even-up-in p (subst Even (sym e) (r .even p (λ equal. omega arith) same));
+    down = λ same t. omega (arith, even-up-out q t, r .even (suc q) (λ equal. omega arith) same);
   }
 
   pub halfway-even : (q : ℕ) → 2 * x ≡ 2 * (d * q) + d → Even q → RoundsToEven d x q
