@@ -6,3 +6,6 @@ pub mod Word
 pub mod WordOrder
 pub mod Scan
 pub mod Passed
+pub mod Halves
+pub mod Exchange
+pub mod Rounds

@@ -5,6 +5,7 @@
 --   on-digits, member-op                               the one argument behind those three
 --   member-beyond, member-below                        no member from the width up: a member is below it
 --   member-zero, member-power                          the members of 0 and of 2 ^ e
+--   member-cut, member-raised, member-under            a bit of a word cut off at a width, and of one shifted up
 --   ones-digits, member-ones                           the digits and the members of 2 ^ n - 1
 --   one-shifted                                        what the machine makes of `1 << e`
 --   member-inserted, member-removed, member-difference, member-united, member-common, member-fullBelow   the members of the sets of specs/Word
@@ -17,12 +18,12 @@ use mathlib.Core.Path.{_≡_, refl, sym, ap, ap₂, _∙_, subst}
 use mathlib.Core.Bool.{Bool, true, false, cond, not, _&&_, _||_, Bool·beq, or-comm}
 use mathlib.Core.Logic.{_⊎_, inl, inr}
 use Prim.Native.Nat.{ℕ, zero, suc, _+_, _-_, _*_, _/_, _%_, _^_, _≤_, _<_, min, max}
-use native.Mathlib.Nat.{one-mul, mod-eq-of-lt, div-one, mul-add-mod-self-right, pow-suc, mul-div-cancel, mul-mod-left, div-eq-of-lt, lt-of-lt-of-le, lt-of-le-of-lt, min-eq-left, min-le-right}
+use native.Mathlib.Nat.{one-mul, mod-eq-of-lt, div-one, mul-add-mod-self-right, pow-suc, mul-div-cancel, mul-mod-left, div-eq-of-lt, lt-of-lt-of-le, lt-of-le-of-lt, min-eq-left, min-le-right, le-dest}
 use native.Mathlib.Numerals.{one-add}
 use native.Mathlib.Omega.{arith}
 use lib.Dec.{T, ltb, eqb, ltb→lt, lt→ltb, eqb→eq, eqb·zero-suc, eqb·suc-zero, eqb·suc-suc, leb·suc-zero, leb·suc-suc, leb·zero}
 use lib.Arith.{lt-one}
-use lib.Pow.{shr-shr, pow-mono, pow-lt, pow-pos, ones-lt}
+use lib.Pow.{shr-shr, shl-shr, pow-add, pow-mono, pow-lt, pow-pos, ones-lt, field, mod-mod-pow}
 use lib.Bits as bits
 use lib.Bits.{bitAnd, bitOr, bitXor, and-step, or-step, xor-step, and-shr, or-shr, xor-shr, or-lt, xor-lt, and-le-l}
 use lib.Count.{ones, ones-step, trailingZeros, under}
@@ -110,6 +111,30 @@ member-below k h p t = go (below-or p k)
     go : (p < k) ⊎ (k ≤ p) → p < k
     go (inl l) = l
     go (inr l) = absurd (subst (λ (b : Bool). T b) (member-beyond k h p l) t)
+
+-- a word cut off at a width has the same bits below it
+pub member-cut : (k x p : ℕ) → p < k → member (x % 2 ^ k) p ≡ member x p
+unfolding member
+member-cut k x p l =
+    let more = le-dest l in
+    let e : k ≡ more .0 + 1 + p = omega (arith, more .1) in
+    ap (λ (w : ℕ). eqb (x % 2 ^ w / 2 ^ p % 2) 1) e ∙ ap (λ (y : ℕ). eqb (y % 2) 1) (field x (more .0 + 1) p) ∙ ap (λ (y : ℕ). eqb y 1) (mod-mod-pow (x / 2 ^ p) (more .0) 1)
+
+-- shifted up by n: bit p comes to n + p, and below n there is none
+pub member-raised : (x n p : ℕ) → member (x * 2 ^ n) (n + p) ≡ member x p
+member-raised x n p = sym (member-shifted (x * 2 ^ n) n p) ∙ ap (λ (y : ℕ). member y p) (shl-shr x n)
+
+pub member-under : (x n p : ℕ) → p < n → member (x * 2 ^ n) p ≡ false
+member-under x n p l =
+    let more = le-dest l in
+    let high : ℕ = 2 ^ more .0 in
+    let e : n ≡ p + suc (more .0) = omega (arith, more .1) in
+    let here : p ≡ p + 0 = omega arith in
+    ap₂ member (ap (λ (w : ℕ). x * 2 ^ w) e ∙ ap (λ (y : ℕ). x * y) (pow-add 2 p (suc (more .0)) ∙ ap (λ (y : ℕ). 2 ^ p * y) (pow-suc 2 (more .0))) ∙ regrouped (2 ^ p) high) here
+    ∙ member-raised (x * high * 2) p 0 ∙ member-lowest (x * high * 2) ∙ ap (λ (y : ℕ). eqb y 1) (mul-mod-left (x * high) 2)
+  where
+    regrouped : (a b : ℕ) → x * (a * (b * 2)) ≡ x * b * 2 * a
+    regrouped a b = omega arith
 
 -- ---- one number put in or taken out, and the numbers below a bound
 

@@ -1,2 +1,3 @@
 pub mod Below
 pub mod Word
+pub mod Matrix

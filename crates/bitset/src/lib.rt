@@ -1,7 +1,8 @@
 // A 64-bit word as a set of the numbers 0 to 63.
+pub mod transposition;
+
 ghost use mathlib.Core.Path.{_≡_};
-ghost use mathlib.Core.Bool.{_&&_};
-ghost use Rattle.bitset.specs.Below.{anyBelow, firstBelow, lastBelow, countBelow, differ, within};
+ghost use Rattle.bitset.specs.Below.{anyBelow, firstBelow, countBelow, within};
 ghost use Rattle.bitset.specs.Word.{member, inserted, removed, difference, united, common, fullBelow, fromUp};
 
 // Whether `element` is in the set; no number from 64 up is.
@@ -86,25 +87,11 @@ pub fn without_smallest(set: u64) -> u64
     if set == 0 { 0 } else { set & (set - 1) }
 }
 
-// The smallest number that is in just one of the two sets; 64 where they are equal.
-pub fn lowest_difference(a: u64, b: u64) -> usize
-    ensures { λ r. ⌜ r ≡ firstBelow 64 (differ (member a) (member b)) ⌝ }
-{
-    smallest(a ^ b)
-}
-
 // Whether every number of `a` is in `b`.
 pub fn subset(a: u64, b: u64) -> bool
     ensures { λ r. ⌜ r ≡ within 64 (member a) (member b) ⌝ }
 {
     a & b == a
-}
-
-// Whether the two sets differ and the largest number that is in just one of them is in `a`.
-pub fn above(a: u64, b: u64) -> bool
-    ensures { λ r. ⌜ r ≡ (anyBelow 64 (differ (member a) (member b)) && member a (lastBelow 64 (differ (member a) (member b)))) ⌝ }
-{
-    b < a
 }
 
 // Whether the set has a number from `n` up.

@@ -1,3 +1,4 @@
 pub mod Seen
+pub mod Symmetry
 pub mod Tried
 pub mod AfterJudge

@@ -3,36 +3,20 @@
 pub mod number;
 
 ghost use mathlib.Core.Path.{_≡_};
+ghost use mathlib.Core.Bool.{false};
 ghost use Prim.Native.Nat.{ℕ, _≤_, _<_};
 ghost use lib.ListN.{length};
-ghost use Rattle.bitset.specs.Below.{firstBelow};
+ghost use Rattle.bitset.specs.Below.{anyBelow, firstBelow};
 ghost use Rattle.searches.specs.Ordering.{at};
-ghost use Rattle.searches.specs.Answer.{vertexOutside, openTests, judgeTests, listTests, firstRefusal, refusalOf};
+ghost use Rattle.searches.specs.Answer.{bitOutside, vertexOutside, openTests, judgeTests, listTests, firstRefusal, refusalOf};
 ghost use Rattle.searches.specs.Answer as answer;
-ghost use Rattle.checks.specs.Row.{oneWayAt, refusedAt};
+ghost use Rattle.checks.specs.Row.{refusedAt, differsIn};
 use searches::Kind;
 use searches::Mark;
 use searches::Outcome;
 use searches::Refusal;
 
-// Whether `u` has an arc to a vertex that has none back. Only the arcs of `u` are looked at.
-fn one_way_from(rows: &[u64], u: usize) -> bool
-    requires { ⌜ u < length (now rows) ⌝ }
-    ensures { λ r. ⌜ r ≡ oneWayAt (now (rows .entry)) u ⌝ }
-{
-    let n = rows.len();
-    let mut rest = rows[u];
-    while rest != 0 {
-        let v = bitset::smallest(rest);
-        if v < n && !bitset::contains(rows[v], u) {
-            return true;
-        }
-        rest = bitset::without_smallest(rest);
-    }
-    false
-}
-
-// Whether refusal `number`, 3, 4 or 5, applies to the row of `u`.
+// Whether refusal `number`, 3 or 4, applies to the row of `u`.
 fn row_refused(rows: &[u64], u: usize, number: u8) -> bool
     requires { ⌜ u < length (now rows) ⌝ }
     ensures { λ r. ⌜ r ≡ refusedAt number (now (rows .entry)) u ⌝ }
@@ -40,13 +24,10 @@ fn row_refused(rows: &[u64], u: usize, number: u8) -> bool
     if number == 3 {
         return bitset::any_from(rows[u], rows.len());
     }
-    if number == 4 {
-        return bitset::contains(rows[u], u);
-    }
-    one_way_from(rows, u)
+    bitset::contains(rows[u], u)
 }
 
-// The first row to which refusal `number`, 3, 4 or 5, applies; the number of rows where there is none.
+// The first row to which refusal `number`, 3 or 4, applies; the number of rows where there is none.
 fn first_refused(rows: &[u64], number: u8) -> usize
     ensures { λ r. ⌜ r ≡ firstBelow (length (now (rows .entry))) (refusedAt number (now (rows .entry))) ⌝ }
 {
@@ -57,6 +38,32 @@ fn first_refused(rows: &[u64], number: u8) -> usize
         }
     }
     n
+}
+
+// Whether a row differs from the column of the same number. All are compared, and what differs is gathered in one word.
+fn differs(rows: &[u64], columns: &[u64]) -> bool
+    requires { ⌜ length (now columns) ≡ length (now rows) ⌝ }
+    ensures { λ r. ⌜ r ≡ anyBelow 64 (differsIn (now (rows .entry)) (now (columns .entry))) ⌝ }
+{
+    let mut difference = 0u64;
+    for u in 0..rows.len() {
+        difference = difference | (rows[u] ^ columns[u]);
+    }
+    difference != 0
+}
+
+// Whether a vertex has an arc to one that has none back: the rows, none of which has a bit outside, are then not their own transpose.
+fn one_way(rows: &[u64]) -> bool
+    requires { ⌜ (length (now rows) ≤ 64) × (bitOutside (now rows) ≡ false) ⌝ }
+    ensures { λ r. ⌜ r ≡ answer.oneWay (now (rows .entry)) ⌝ }
+{
+    let n = rows.len();
+    let mut columns = [0u64; 64];
+    for u in 0..n {
+        columns[u] = rows[u];
+    }
+    bitset::transposition::transpose(&mut columns, n);
+    differs(rows, &columns[..n])
 }
 
 // Whether one of the first `k` entries is `n` or more.
@@ -72,7 +79,7 @@ fn vertex_outside(list: &[u8], k: usize, n: usize) -> bool
     false
 }
 
-// Whether one of the first `k` entries, all below 64, stands there twice.
+// Whether one of the first `k` entries, all below 64, stands there twice: the set of them is then smaller than `k`.
 pub fn repeated(list: &[u8], k: usize) -> bool
     requires { ⌜ k ≤ length (now list) ⌝ }
     requires { ⌜ ((p : ℕ) → p < k → at (now list) p < 64) ⌝ }
@@ -81,12 +88,9 @@ pub fn repeated(list: &[u8], k: usize) -> bool
     let mut seen = 0u64;
     for q in 0..k {
         let vertex = list[q] as usize;
-        if bitset::contains(seen, vertex) {
-            return true;
-        }
         seen = bitset::insert(seen, vertex);
     }
-    false
+    bitset::size(seen) != k
 }
 
 // The first of refusals 1 to 5 that applies to `kind` and `rows`, else `Done`; 5 for two-way graphs only. It alters neither.
@@ -111,7 +115,7 @@ pub fn open_refusal(kind: Kind, mark: Mark, rows: &[u64]) -> Outcome
     if let Mark::OneWay = mark {
         return Outcome::Done;
     }
-    if first_refused(rows, 5) < n {
+    if one_way(rows) {
         return Outcome::Refused(Refusal::OneWayArc);
     }
     Outcome::Done

@@ -1,6 +1,6 @@
 -- The two public calls, from what their parts answer.
 --   valid-both-ways, valid-own-transpose, valid-columns   every link of a valid two-way graph goes both ways; what is counted in are the columns
---   replayable                        an ordering can be replayed on empty labels and without running values
+--   replayable                        an ordering can be replayed on empty labels, without running values and weights
 --   fault-there, fault-judged         where the replay stops there is a violation, and the first one is judge's verdict
 --   stopped-fails, ended-passes, along-ended, whole-filled, filled-carried   what extend answers and leaves
 --   moment-refused, moment-stopped, moment-ended   what after hands back
@@ -8,7 +8,7 @@
 -- Assumes nothing.
 use mathlib.Core.Path.{_≡_, refl, sym, ap, ap₂, _∙_, subst}
 use mathlib.Core.Bool.{Bool, true, false, cond, not}
-use mathlib.Core.List.{List, [], _∷_, _++_, append-nil, append-assoc}
+use mathlib.Core.List.{List, [], _∷_, _++_, map, append-nil, append-assoc}
 use mathlib.Core.Option.{Option, none, some}
 use Prim.Native.Nat.{ℕ, _+_, _-_, _≤_, _<_}
 use native.Mathlib.Omega.{arith}
@@ -30,10 +30,11 @@ use Rattle.searches.proofs.CarryOn.{passes-greedy}
 use Rattle.searches.proofs.Refusals.{none-accepts, first-refuses, oneWay-in}
 use Rattle.searches.proofs.Answers as answers
 use Rattle.checks.proofs.Tried.{tried-first, refused-before}
+use Rattle.labels.specs.Weights.{weightOf}
+use Rattle.labels.specs.Words.{Weighed}
 use Rattle.steps.specs.Columns.{columnsOf, Transposed}
 use Rattle.steps.specs.Steps.{labelsAfter, smallestAfter, largestAfter, placedAfter, freeAfter, stopsAt, lastIn, firstIn, firstFault, fillIn, Replayable, Searchable, Along}
 use Rattle.steps.proofs.Transposition.{own-transpose, counted-columns}
-use Rattle.steps.proofs.Tracking.{consistent-after}
 use Rattle.steps.proofs.Growing.{along-start}
 use Rattle.engine.specs.declared.after.Moment.{Moment}
 use Rattle.engine.specs.Lists.{Judgeable, Extendable}
@@ -62,7 +63,7 @@ module _ (kind : ℕ) (mark : Mark) (rows : List ℕ) (valid : Accepts (openTest
   valid-columns = counted-columns rows (answers.valid-small kind mark rows valid) mark valid-both-ways
 
 module _ (rows : List ℕ) {columns : List ℕ} (w : List ℕ) (k : ℕ) (x : Judgeable rows columns w k) where
-  pub replayable : Replayable rows columns w k (replicate 64 0) (replicate 64 64) (replicate 64 0)
+  pub replayable : Replayable rows columns w k (replicate 64 0) (replicate 64 64) (replicate 64 0) (replicate 64 0)
   replayable = record {
     long = x .ordering .long;
     fits = ordering-fits (length rows) (x .ordering);
@@ -73,32 +74,29 @@ module _ (rows : List ℕ) {columns : List ℕ} (w : List ℕ) (k : ℕ) (x : Ju
     empty = refl;
     no-smallest = refl;
     no-largest = refl;
+    no-weight = refl;
   }
 
   module _ (s : Search) (j : ℕ) (stops : j ≡ firstBelow k (stopsAt s rows w)) where
-    module _ (labels : List ℕ) (placed free : ℕ) (l : j < k) (at-labels : labels ≡ labelsAfter rows w j) (at-placed : placed ≡ placedAfter w j) (at-free : free ≡ freeAfter (length rows) w j) where
-      module _ {smallest largest : List ℕ} (at-smallest : smallest ≡ smallestAfter rows w j) (at-largest : largest ≡ largestAfter rows w j) where
-        searchable : Searchable rows columns w k labels smallest largest placed free j
-        searchable = record {
+    module _ (labels : List ℕ) (free : ℕ) (l : j < k) (at-labels : labels ≡ labelsAfter rows w j) (at-free : free ≡ freeAfter (length rows) w j) where
+      pub fault-there : {weights : List ℕ} → Weighed s labels weights → Searchable s rows w k labels weights free j × T (anyBelow j (firstIn s rows w labels free j k))
+      fault-there weighed = (
+        record {
           long = x .ordering .long;
           inside = l;
           fits = ordering-fits (length rows) (x .ordering);
           small = x .small;
           vertices = x .ordering .vertices;
           unplaced = at-free;
-          consistent = consistent-after rows w k (x .small) (x .ordering) (x .transpose) j (omega arith) at-labels at-smallest at-largest at-placed;
-        }
-
-        pub fault-there : Searchable rows columns w k labels smallest largest placed free j × T (anyBelow j (firstIn s rows w labels free j k))
-        fault-there = (
-          searchable,
-          subst (λ (ls : List ℕ). T (anyBelow j (firstIn s rows w ls free j k))) (sym at-labels)
-              (subst (λ (f : ℕ). T (anyBelow j (firstIn s rows w (labelsAfter rows w j) f j k))) (sym at-free)
-              (some-found j (firstIn s rows w (labelsAfter rows w j) (freeAfter (length rows) w j) j k)
-              (firstBelow j (firstIn s rows w (labelsAfter rows w j) (freeAfter (length rows) w j) j k)) refl
-              (first-before s rows w k (x .small) (x .ordering) j stops l
-              (firstBelow j (firstIn s rows w (labelsAfter rows w j) (freeAfter (length rows) w j) j k)) refl))),
-        )
+          weighed = weighed;
+        },
+        subst (λ (ls : List ℕ). T (anyBelow j (firstIn s rows w ls free j k))) (sym at-labels)
+            (subst (λ (f : ℕ). T (anyBelow j (firstIn s rows w (labelsAfter rows w j) f j k))) (sym at-free)
+            (some-found j (firstIn s rows w (labelsAfter rows w j) (freeAfter (length rows) w j) j k)
+            (firstBelow j (firstIn s rows w (labelsAfter rows w j) (freeAfter (length rows) w j) j k)) refl
+            (first-before s rows w k (x .small) (x .ordering) j stops l
+            (firstBelow j (firstIn s rows w (labelsAfter rows w j) (freeAfter (length rows) w j) j k)) refl))),
+      )
 
       pub fault-judged : firstFault s rows w labels free j k ≡ judge s (arcs rows) (length rows) w k
       unfolding firstFault
@@ -188,7 +186,7 @@ module _ (kind : ℕ) (mark : Mark) (rows w : List ℕ) where
 
   pub moment-none : {r : Moment} → r ≡ noMoment → false ≡ isPass (judgeAnswer kind mark rows w) → r ≡ momentAfter kind mark rows w
   unfolding momentAfter
-  moment-none is fails = is ∙ ap (λ (b : Bool). cond b (momentOf mark rows w) noMoment) fails
+  moment-none is fails = is ∙ ap (λ (b : Bool). cond b (momentOf (searchOf kind) rows w) noMoment) fails
 
   pub moment-refused : {r : Moment} → r ≡ noMoment → (q : ℕ) → some q ≡ firstRefusal (judgeTests kind mark rows w) → r ≡ momentAfter kind mark rows w
   unfolding isPass
@@ -203,27 +201,24 @@ module _ (kind : ℕ) (mark : Mark) (rows w : List ℕ) where
     pub moment-stopped : {r : Moment} → r ≡ noMoment → count < length w → r ≡ momentAfter kind mark rows w
     moment-stopped is l =
         moment-none is
-        (sym (stopped-fails rows w (length w) (asked .0) (searchOf kind) count stops (labelsAfter rows w count) (placedAfter w count) (freeAfter (length rows) w count) l refl refl refl)
+        (sym (stopped-fails rows w (length w) (asked .0) (searchOf kind) count stops (labelsAfter rows w count) (freeAfter (length rows) w count) l refl refl)
         ∙ ap isPass (asked .1))
 
-    pub moment-ended : {placed free : ℕ} {columns labels smallest largest : List ℕ} → length w ≤ count → columns ≡ columnsOf mark rows → placed ≡ placedAfter w count → free ≡ freeAfter (length rows) w count
-        → labels ≡ labelsAfter rows w count → smallest ≡ smallestAfter rows w count → largest ≡ largestAfter rows w count
-        → record { passes = true; placed = placed; free = free; columns = columns; labels = labels; smallest = smallest; largest = largest } ≡ momentAfter kind mark rows w
+    pub moment-ended : {free : ℕ} {labels weights : List ℕ} → length w ≤ count → free ≡ freeAfter (length rows) w count → labels ≡ labelsAfter rows w count
+        → Weighed (searchOf kind) labels weights → record { passes = true; free = free; labels = labels; weights = weights } ≡ momentAfter kind mark rows w
     unfolding momentAfter momentOf isPass
-    moment-ended {placed} {free} {columns} {labels} {smallest} {largest} l at-columns at-placed at-free at-labels at-smallest at-largest =
+    moment-ended {free} {labels} {weights} l at-free at-labels weighed =
         let whole : count ≡ length w = omega (arith, stops, first (length w) (stopsAt (searchOf kind) rows w) .within) in
         let passing : true ≡ isPass (judgeAnswer kind mark rows w) =
         ap isPass (sym (ended-passes rows w (length w) (asked .0) (searchOf kind) count stops l) ∙ asked .1)
         in
-        ap (λ (cs : List ℕ). handed cs placed free labels smallest largest) at-columns
-        ∙ ap₂ (λ (p f : ℕ). handed (columnsOf mark rows) p f labels smallest largest) at-placed at-free
-        ∙ ap₂ (λ (ls ss : List ℕ). handed (columnsOf mark rows) (placedAfter w count) (freeAfter (length rows) w count) ls ss largest) at-labels at-smallest
-        ∙ ap (λ (ls : List ℕ). handed (columnsOf mark rows) (placedAfter w count) (freeAfter (length rows) w count) (labelsAfter rows w count) (smallestAfter rows w count) ls) at-largest
-        ∙ ap (λ (j : ℕ). handed (columnsOf mark rows) (placedAfter w j) (freeAfter (length rows) w j) (labelsAfter rows w j) (smallestAfter rows w j) (largestAfter rows w j)) whole
-        ∙ ap (λ (b : Bool). cond b (momentOf mark rows w) noMoment) passing
+        ap (λ (ws : List ℕ). handed free labels ws) (weighed .same)
+        ∙ ap₂ (λ (f : ℕ) (ls : List ℕ). handed f ls (map (weightOf (searchOf kind)) ls)) at-free at-labels
+        ∙ ap (λ (j : ℕ). handed (freeAfter (length rows) w j) (labelsAfter rows w j) (map (weightOf (searchOf kind)) (labelsAfter rows w j))) whole
+        ∙ ap (λ (b : Bool). cond b (momentOf (searchOf kind) rows w) noMoment) passing
       where
-        handed : List ℕ → ℕ → ℕ → List ℕ → List ℕ → List ℕ → Moment
-        handed cs p f ls ss gs = record { passes = true; placed = p; free = f; columns = cs; labels = ls; smallest = ss; largest = gs }
+        handed : ℕ → List ℕ → List ℕ → Moment
+        handed f ls ws = record { passes = true; free = f; labels = ls; weights = ws }
 
 module _ (kind : ℕ) (mark : Mark) (rows t out : List ℕ) (k : ℕ) where
   abbrev verdict : Verdict

@@ -8,7 +8,7 @@ use mathlib.Core.Bool.{Bool}
 use mathlib.Core.List.{List, [], _∷_, _++_, append-nil, append-assoc}
 use Prim.Native.Nat.{ℕ, zero, suc, _+_, _-_, _≤_}
 use native.Mathlib.Omega.{arith}
-use lib.ListN.{length, getD, take}
+use lib.ListN.{length, take}
 use lib.Seq.{length-take-le}
 use Rattle.bitset.specs.Word.{removed}
 use Rattle.searches.specs.Kind.{Search}
@@ -18,7 +18,7 @@ use Rattle.searches.proofs.Ordering.{agree-sym, take-agree, ordering-fits, leng
 use Rattle.searches.proofs.CarryOn.{chosen-offered}
 use Rattle.searches.proofs.Run.{Greedy, greedy-ordering, greedy-agree, greedy-grown}
 use Rattle.labels.specs.Words.{spreadTo, chosenIn}
-use Rattle.steps.specs.Steps.{labelsAfter, freeAfter, fillIn}
+use Rattle.steps.specs.Steps.{grownBy, labelsAfter, freeAfter, fillIn}
 use Rattle.steps.proofs.Growing.{labels-agree, free-agree, labels-grown, free-grown, choice-same}
 
 pub fill-length : (s : Search) (rows t : List ℕ) (m p : ℕ) (labels : List ℕ) (free : ℕ) → length (fillIn s rows t m p labels free) ≡ m
@@ -26,7 +26,7 @@ unfolding fillIn
 fill-length s rows t zero p labels free = refl
 fill-length s rows t (suc m) p labels free =
     let v = chosenIn s labels free t in
-    ap suc (fill-length s rows t m (suc p) (spreadTo (getD rows v 0) p (length rows) labels) (removed free v))
+    ap suc (fill-length s rows t m (suc p) (spreadTo (grownBy rows free v) p labels) (removed free v))
 
 module _ (s : Search) (rows : List ℕ) (small : length rows ≤ 64) where
   abbrev n : ℕ
@@ -41,7 +41,7 @@ module _ (s : Search) (rows : List ℕ) (small : length rows ≤ 64) where
 
   pub fill-after : (t w : List ℕ) (v m : ℕ)
       → (w ++ v ∷ []) ++ filled t m (w ++ v ∷ [])
-      ≡ w ++ v ∷ fillIn s rows t m (suc (length w)) (spreadTo (getD rows v 0) (length w) n (labelsAfter rows w (length w))) (removed (freeAfter n w (length w)) v)
+      ≡ w ++ v ∷ fillIn s rows t m (suc (length w)) (spreadTo (grownBy rows (freeAfter n w (length w)) v) (length w) (labelsAfter rows w (length w))) (removed (freeAfter n w (length w)) v)
   fill-after t w v m =
       let w′ : List ℕ = w ++ v ∷ [] in
       ap (λ (p : ℕ). w′ ++ fillIn s rows t m p (labelsAfter rows w′ p) (freeAfter n w′ p)) (length-grown w v)
@@ -60,7 +60,7 @@ module _ (s : Search) (rows : List ℕ) (small : length rows ≤ 64) where
       let next = greedy-grown s arc n w c g (chosen-offered s arc n t names w o (omega arith)) in
       fill-grows t (w ++ c ∷ []) names (subst (λ (j : ℕ). Greedy s arc n (w ++ c ∷ []) j) (sym len) next) m (omega arith)
       ∙ fill-after t w c m
-      ∙ ap (λ (v : ℕ). w ++ v ∷ fillIn s rows t m (suc k) (spreadTo (getD rows v 0) k n (labelsAfter rows w k)) (removed (freeAfter n w k) v)) (choice-same s rows small t w k o)
+      ∙ ap (λ (v : ℕ). w ++ v ∷ fillIn s rows t m (suc k) (spreadTo (grownBy rows (freeAfter n w k) v) k (labelsAfter rows w k)) (removed (freeAfter n w k) v)) (choice-same s rows small t w k o)
 
   pub carry-fills : (t out : List ℕ) (k : ℕ) → IsFullOrdering n t → IsOrdering n out k → Greedy s arc n out k
       → carryOn s arc n t out k

@@ -6,7 +6,7 @@
 --   first-before, words-found               the searches find something
 --   judge-passes-words, judge-fails-words   and the verdict is what they find
 -- Assumes nothing.
-use mathlib.Core.Path.{_≡_, sym, ap, ap₂, _∙_, subst}
+use mathlib.Core.Path.{_≡_, sym, ap, _∙_, subst}
 use mathlib.Core.Bool.{Bool, not, _&&_, and-comm}
 use mathlib.Core.List.{List}
 use Prim.Native.Nat.{ℕ, suc, _+_, _≤_, _<_}
@@ -15,7 +15,7 @@ use lib.Dec.{T, ltb, eqb, ltb→lt, lt→ltb, not-T, T-not}
 use lib.ListN.{length, getD}
 use Rattle.bitset.specs.Below.{firstBelow}
 use Rattle.bitset.specs.Word.{member}
-use Rattle.bitset.proofs.Tests.{eqb-comm, not-not, same-test, is-true, cond-yes, cond-no}
+use Rattle.bitset.proofs.Tests.{and-out, and-same, eqb-comm, not-not, same-test, is-true, cond-yes, cond-no}
 use Rattle.bitset.proofs.Below.{any-out, any-same, first, first-found, first-same as first-same-test}
 use Rattle.bitset.proofs.Word as word
 use Rattle.searches.specs.Kind.{Search}
@@ -60,13 +60,17 @@ module _ (s : Search) (rows w : List ℕ) (k : ℕ) (small : length rows ≤ 64)
 
   -- ---- where the replay stops
 
+  -- the vertex whose turn it is is unplaced
+  turn-free : (j : ℕ) → j < k → T (member (free j) (at w j))
+  turn-free j l =
+      subst (λ (b : Bool). T b) (sym (free-unplaced rows w small j (at w j) (o .vertices j l))) (not-T (placed w j (at w j)) (ordering-unplaced n o j l))
+
   pub offered-unless-stopped : (j : ℕ) → j < k → offered s arc n w j (at w j) ≡ not (stopsAt s rows w j)
   unfolding stopsAt openIn
   offered-unless-stopped j l =
       sym (open-offered s rows w k small o j (omega arith) (at w j))
       ∙ ap (λ (b : Bool). b && not (stopsAt s rows w j))
-      (is-true (member (free j) (at w j))
-      (subst (λ (b : Bool). T b) (sym (free-unplaced rows w small j (at w j) (o .vertices j l))) (not-T (placed w j (at w j)) (ordering-unplaced n o j l))))
+      (is-true (member (free j) (at w j)) (turn-free j l))
 
   pub stops-middle : (j : ℕ) → j < k → stopsAt s rows w j ≡ isMiddle s arc n w k j
   stops-middle j l =
@@ -85,19 +89,29 @@ module _ (s : Search) (rows w : List ℕ) (k : ℕ) (small : length rows ≤ 64)
       ∙ and-comm (member (free j) c) (not (eqb (at w j) c)) ∙ sym (word.member-removed (free j) (at w j) c)
       ∙ free-unplaced rows w small (suc j) c l
 
-  pub unexcused-same : (j i c b : ℕ) → j ≤ k → c < n → b < n
+  pub unexcused-same : (j i c b : ℕ) → j ≤ k → T (member (free j) c) → T (member (free j) b)
       → unexcusedIn s i (getD (labels j) c 0) (getD (labels j) b 0)
       ≡ meets (condition s i) j (label arc w c) (label arc w b)
   unfolding unexcusedIn
-  unexcused-same j i c b h c-vertex b-vertex =
+  unexcused-same j i c b h c-free b-free =
       meets-cut j 64 (member (getD (labels j) c 0)) (member (getD (labels j) b 0)) (label arc w c) (label arc w b) (omega (arith, ordering-fits n o))
-      (label-members rows w k small o j h c c-vertex) (label-members rows w k small o j h b b-vertex) (condition s i)
+      (label-members rows w k small o j h c c-free) (label-members rows w k small o j h b b-free) (condition s i)
 
   pub violates-same : (j i c : ℕ) → j < k → c < n → violatesIn s rows w (labels j) (free j) j i c ≡ violates s arc w i j c
   unfolding violatesIn violates
   violates-same j i c l g =
-      ap₂ (λ (later clear : Bool). arc (at w i) c && not (arc (at w i) (at w j)) && later && clear) (later-same j c g)
-      (unexcused-same j i c (at w j) (omega arith) g (o .vertices j l))
+      and-same leads-later (unexcusedIn s i (getD (labels j) c 0) (getD (labels j) (at w j) 0)) (meets (condition s i) j (label arc w c) (label arc w (at w j)))
+      (λ t. unexcused-same j i c (at w j) (omega arith) (is-free t) (turn-free j l))
+      ∙ ap (λ (later : Bool). arc (at w i) c && not (arc (at w i) (at w j)) && later && meets (condition s i) j (label arc w c) (label arc w (at w j))) (later-same j c g)
+    where
+      leads : Bool
+      leads = arc (at w i) c && not (arc (at w i) (at w j))
+
+      leads-later : Bool
+      leads-later = leads && (member (free j) c && not (eqb c (at w j)))
+
+      is-free : T leads-later → T (member (free j) c)
+      is-free t = and-out (member (free j) c) (not (eqb c (at w j))) (and-out leads (member (free j) c && not (eqb c (at w j))) t .1) .0
 
   pub last-same : (j i e : ℕ) → j < k → e < k + n → lastIn s rows w (labels j) (free j) j k i e ≡ isLast s arc n w k j i e
   unfolding lastIn isLast

@@ -1,38 +1,30 @@
-// The placed and the unplaced vertices, the labels and the running values after an ordering, and the graph's columns, for a caller that continues it.
+// The unplaced vertices, the labels and their weights after an ordering, for a caller that continues it.
 use searches::Kind;
 use searches::Mark;
 use searches::Outcome;
 ghost use mathlib.Core.Path.{_≡_};
 ghost use Rattle.engine.specs.Moments.{noMoment, momentAfter};
 
-// Whether judge passes an ordering, and the placed and the unplaced vertices, the labels and the running values after it, with the columns of its
-// graph, in which MCS counts; where it does not pass, no vertex, empty labels, no value and empty columns.
+// Whether judge passes an ordering, and the unplaced vertices, the labels and their weights after it; where it does not pass, no vertex, empty labels
+// and no weight.
 pub struct Moment {
     pub passes: bool,
-    pub placed: u64,
     pub free: u64,
-    pub columns: [u64; 64],
     pub labels: [u64; 64],
-    pub smallest: [u8; 64],
-    pub largest: [u8; 64],
+    pub weights: [u64; 64],
 }
 
 // The moment of an ordering that does not pass.
 pub fn no_moment() -> Moment
     ensures { λ r. ⌜ r ≡ noMoment ⌝ }
 {
-    let columns = [0u64; 64];
     let labels = [0u64; 64];
-    let smallest = [64u8; 64];
-    let largest = [0u8; 64];
+    let weights = [0u64; 64];
     Moment {
         passes: false,
-        placed: 0,
         free: 0,
-        columns,
         labels,
-        smallest,
-        largest,
+        weights,
     }
 }
 
@@ -44,6 +36,7 @@ pub fn after(kind: Kind, mark: Mark, rows: &[u64], ordering: &[u8]) -> Moment
     let mut labels = [0u64; 64];
     let mut smallest = [64u8; 64];
     let mut largest = [0u8; 64];
+    let mut weights = [0u64; 64];
     let checked = checks::judge_refusal(kind, mark, rows, ordering);
     if let Outcome::Refused(_) = checked {
         return no_moment();
@@ -51,7 +44,7 @@ pub fn after(kind: Kind, mark: Mark, rows: &[u64], ordering: &[u8]) -> Moment
     let n = rows.len();
     let k = ordering.len();
     steps::columns::columns_of(mark, rows, &mut columns);
-    let placed = steps::replay::replay(
+    let replayed = steps::replay::replay(
         kind,
         rows,
         &columns[..n],
@@ -60,17 +53,15 @@ pub fn after(kind: Kind, mark: Mark, rows: &[u64], ordering: &[u8]) -> Moment
         &mut labels,
         &mut smallest,
         &mut largest,
+        &mut weights,
     );
-    if placed.count < k {
+    if replayed.count < k {
         return no_moment();
     }
     Moment {
         passes: true,
-        placed: placed.set,
-        free: placed.free,
-        columns,
+        free: replayed.stage.free,
         labels,
-        smallest,
-        largest,
+        weights,
     }
 }

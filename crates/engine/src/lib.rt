@@ -48,8 +48,9 @@ fn verdict(kind: Kind, rows: &[u64], columns: &[u64], ordering: &[u8]) -> Judgem
     let mut labels = [0u64; 64];
     let mut smallest = [64u8; 64];
     let mut largest = [0u8; 64];
+    let mut weights = [0u64; 64];
     let k = ordering.len();
-    let placed = steps::replay::replay(
+    let replayed = steps::replay::replay(
         kind,
         rows,
         columns,
@@ -58,21 +59,18 @@ fn verdict(kind: Kind, rows: &[u64], columns: &[u64], ordering: &[u8]) -> Judgem
         &mut labels,
         &mut smallest,
         &mut largest,
+        &mut weights,
     );
-    let j = placed.count;
-    let set = placed.set;
-    let free = placed.free;
+    let j = replayed.count;
+    let free = replayed.stage.free;
     if j < k {
         return Judgement::Fails(steps::violation::first_violation(
             kind,
             rows,
-            columns,
             ordering,
             k,
             &labels,
-            &smallest,
-            &largest,
-            set,
+            &weights,
             free,
             Position(j),
         ));
@@ -129,7 +127,8 @@ fn extend(
     let mut labels = [0u64; 64];
     let mut smallest = [64u8; 64];
     let mut largest = [0u8; 64];
-    let placed = steps::replay::replay(
+    let mut weights = [0u64; 64];
+    let replayed = steps::replay::replay(
         kind,
         rows,
         columns,
@@ -138,13 +137,11 @@ fn extend(
         &mut labels,
         &mut smallest,
         &mut largest,
+        &mut weights,
     );
-    if placed.count < k {
+    if replayed.count < k {
         return Outcome::Refused(Refusal::StartFails);
     }
-    let set = placed.set;
-    let free = placed.free;
-    let reached = placed.reached;
     steps::fill::fill(
         kind,
         rows,
@@ -155,9 +152,8 @@ fn extend(
         &mut labels,
         &mut smallest,
         &mut largest,
-        set,
-        free,
-        reached,
+        &mut weights,
+        replayed.stage,
     );
     Outcome::Done
 }

@@ -1,23 +1,20 @@
 -- The choice by a tie-break: a list searched from its end.
 --   Closed s labels free t q      no entry of t from q on is open
 --   closed-next                   one entry more
---   chosen-found, chosen-none     what the search ends with;   none-open   with no free vertex none is open
+--   chosen-found, chosen-none     what the search ends with
 -- Assumes nothing.
 use mathlib.Core.Path.{_≡_, sym, ap, _∙_, subst}
-use mathlib.Core.Bool.{not}
 use mathlib.Core.Logic.{_⊎_, inl, inr}
 use mathlib.Core.List.{List}
 use Prim.Native.Nat.{ℕ, suc, _≤_, _<_}
 use native.Mathlib.Omega.{arith}
 use lib.Dec.{T}
-use lib.ListN.{length, getD}
-use Rattle.bitset.specs.Word.{member}
-use Rattle.bitset.proofs.Tests.{and-out, below-or}
+use lib.ListN.{length}
+use Rattle.bitset.proofs.Tests.{below-or}
 use Rattle.bitset.proofs.Below.{last-unique, last-none}
-use Rattle.bitset.proofs.Word.{empty-back}
 use Rattle.searches.specs.Kind.{Search}
 use Rattle.searches.specs.Ordering.{at}
-use Rattle.labels.specs.Words.{beatenIn, openIn, chosenIn}
+use Rattle.labels.specs.Words.{openIn, chosenIn}
 
 module _ (s : Search) (labels : List ℕ) (free : ℕ) (t : List ℕ) where
   abbrev pub Closed : ℕ → Type 0
@@ -48,7 +45,3 @@ module _ (s : Search) (labels : List ℕ) (free : ℕ) (t : List ℕ) where
   pub chosen-none : Closed 0 → at t 0 ≡ chosenIn s labels free t
   unfolding chosenIn
   chosen-none none = ap (λ (x : ℕ). at t x) (sym (last-none (length t) (λ q. openIn s labels free (at t q)) (λ i l. none i (omega arith) l)))
-
-  pub none-open : free ≡ 0 → Closed 0
-  unfolding openIn
-  none-open e x l h o = empty-back e (at t x) (and-out (member free (at t x)) (not (beatenIn s labels free (getD labels (at t x) 0))) o .0)

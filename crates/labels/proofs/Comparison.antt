@@ -1,9 +1,8 @@
 -- The comparison of two labels that are kept as words, search by search, and the test for an excuse.
 --   empty-word                              a word has no member exactly when it is 0
---   lexBfs-words, lexDfs-words, mns-words, generic-words   what the code computes is what aheadIn says
---   bfs-words                               BFS by the first positions, which Extremes takes from the running values; DFS is there, MCS in Profiles
---   lexBfs-behind                           LexBFS with the two turned round, by the position that was found
---   ranked-words, mns-compared, ahead-answered   what is told of these tests is what comparedIn says, and what that says of who is ahead
+--   bfs-words, lexDfs-words, mns-words, generic-words   BFS by the first positions, and the others: what is compared is what aheadIn says
+--   ranked-words, mns-compared                   what is told of these tests is what comparedIn says
+--   ahead-answered, level-answered               what that says of who is ahead, and of who is level
 --   unexcused-*                             likewise for unexcusedIn
 --   of-kind, searchOf-other, searchOf-mns   from a kind byte to its search
 -- Assumes nothing.
@@ -15,17 +14,17 @@ use native.Mathlib.Omega.{arith}
 use lib.Dec.{T, ltb, leb, eqb, ltb→lt, lt→ltb, leb→le, le→leb, eqb→eq, eqb-refl, not-T, T-not}
 use Rattle.bitset.specs.Below.{anyBelow, firstBelow, lastBelow, differ, within}
 use Rattle.bitset.specs.Word.{member, difference, fromUp}
-use Rattle.bitset.proofs.Tests.{and-in, and-out, and-true, decided, same-test, is-true, is-false, three-ways, below-or}
-use Rattle.bitset.proofs.Below.{any-out, any-at, any-same, first, first-earliest, first-same}
-use Rattle.bitset.proofs.Sets.{differ-comm, within-in, within-out}
+use Rattle.bitset.proofs.Tests.{and-in, and-out, and-true, decided, same-test, three-ways, below-or}
+use Rattle.bitset.proofs.Below.{any-out, any-at, any-same, first, first-earliest}
+use Rattle.bitset.proofs.Sets.{within-in, within-out}
 use Rattle.bitset.proofs.Word as word
 use Rattle.searches.specs.Kind.{Search, generic, bfs, dfs, lexBfs, lexDfs, mns, mcs, searchOf}
 use Rattle.searches.specs.Label.{empty, settled, outranks}
-use Rattle.searches.specs.Comparison.{toldBy, isAhead}
+use Rattle.searches.specs.Comparison.{toldBy, isAhead, isLevel}
 use Rattle.searches.specs.Violation.{condition, meets}
 use Rattle.searches.proofs.Reason.{Reason, outranks→reason, reason→outranks}
 use Rattle.searches.proofs.Level.{alike-within}
-use Rattle.searches.proofs.Comparing.{ahead-told, compared-mns, compared-ranked}
+use Rattle.searches.proofs.Comparing.{ahead-told, level-told, compared-mns, compared-ranked}
 use Rattle.labels.specs.Words.{aheadIn, comparedIn, unexcusedIn}
 
 -- ---- words as sets
@@ -80,25 +79,6 @@ module _ (c b : ℕ) where
               let i : q < 64 = omega (arith, r .below) in
               absurd (r .unexcused q i (first 64 (member b) .holds i) (lt→ltb q (r .position) l))
 
-  pub lexBfs-words : c < 2 ^ 64 → member c (firstBelow 64 (differ (member c) (member b))) ≡ aheadIn lexBfs c b
-  unfolding aheadIn outranks settled
-  lexBfs-words h = go (decided (anyBelow 64 apart))
-    where
-      apart : ℕ → Bool
-      apart = differ (member c) (member b)
-
-      p : ℕ
-      p = firstBelow 64 apart
-
-      go : T (anyBelow 64 apart) ⊎ (T (anyBelow 64 apart) → ⊥) → member c p ≡ (anyBelow 64 apart && member c p)
-      go (inl some) = ap (λ (x : Bool). x && member c p) (sym (is-true (anyBelow 64 apart) some))
-      go (inr none) =
-          word.member-beyond 64 h p (beyond (below-or p 64)) ∙ ap (λ (x : Bool). x && member c p) (sym (is-false (anyBelow 64 apart) none))
-        where
-          beyond : (p < 64) ⊎ (64 ≤ p) → 64 ≤ p
-          beyond (inl l) = absurd (none (any-at 64 apart p l (first 64 apart .holds l)))
-          beyond (inr l) = l
-
   pub lexDfs-words : (anyBelow 64 (differ (member c) (member b)) && member c (lastBelow 64 (differ (member c) (member b)))) ≡ aheadIn lexDfs c b
   unfolding aheadIn outranks settled
   lexDfs-words = refl
@@ -110,12 +90,6 @@ module _ (c b : ℕ) where
   pub generic-words : c < 2 ^ 64 → b < 2 ^ 64 → (not (eqb c 0) && eqb b 0) ≡ aheadIn generic c b
   unfolding aheadIn outranks
   generic-words hc hb = ap₂ (λ (x y : Bool). not x && y) (sym (empty-word c hc)) (sym (empty-word b hb))
-
--- the position that tells whether c is ahead tells whether b is
-pub lexBfs-behind : (c b : ℕ) → b < 2 ^ 64 → member b (firstBelow 64 (differ (member c) (member b))) ≡ aheadIn lexBfs b c
-lexBfs-behind c b h =
-    ap (λ (p : ℕ). member b p) (first-same 64 (differ (member c) (member b)) (differ (member b) (member c)) (λ p _. differ-comm (member c) (member b) p))
-    ∙ lexBfs-words b c h
 
 -- ---- how the one stands to the other
 
@@ -145,6 +119,11 @@ mns-compared c b {covers} {covered} is is′ =
 pub ahead-answered : (s : Search) (c b : ℕ) → isAhead (comparedIn s c b) ≡ aheadIn s c b
 unfolding comparedIn aheadIn
 ahead-answered s c b = ahead-told s 64 (member c) (member b)
+
+-- the answer that the two are level
+pub level-answered : (s : Search) → s ≢ mns → (c b : ℕ) → isLevel (comparedIn s c b) ≡ (not (aheadIn s c b) && not (aheadIn s b c))
+unfolding comparedIn aheadIn
+level-answered s other c b = level-told s 64 (member c) (member b) other
 
 -- ---- the kind byte
 

@@ -3,9 +3,8 @@
 --   largest-byte, largest-empty       the byte of the largest position is one more than the last one, and 0 where the label is empty
 --   dfs-bytes                         the comparison of two such bytes is DFS's
 --   unexcused-dfs                     that byte tells whether a position behind i is in the label
---   bfs-ahead, dfs-ahead, bfs-unexcused, dfs-unexcused   what the code computes of two profiles is what aheadIn and unexcusedIn say
 -- Assumes nothing.
-use mathlib.Core.Path.{_≡_, sym, ap, ap₂, _∙_}
+use mathlib.Core.Path.{_≡_, ap, _∙_}
 use mathlib.Core.Bool.{Bool, not, _&&_, _||_}
 use mathlib.Core.Logic.{_⊎_, inl, inr}
 use Prim.Native.Nat.{ℕ, suc, _<_, _≤_}
@@ -15,14 +14,13 @@ use Rattle.bitset.specs.Below.{anyBelow, firstBelow, lastBelow}
 use Rattle.bitset.specs.Word.{member}
 use Rattle.bitset.proofs.Tests.{and-in, and-out, or-inl, or-inr, or-out, not-not, decided, same-test, below-or}
 use Rattle.bitset.proofs.Below.{Some, IsLast, any-out, any-in, any-at, first-unique, last}
-use Rattle.searches.specs.Kind.{Search, bfs, dfs}
+use Rattle.searches.specs.Kind.{dfs}
 use Rattle.searches.specs.Label.{empty, nearer, outranks}
 use Rattle.searches.specs.Running.{smallestIn, largestIn}
 use Rattle.searches.specs.Violation.{condition, meets}
 use Rattle.searches.proofs.Running.{smallest-found, smallest-absent, largest-found, largest-absent}
-use Rattle.labels.specs.Words.{smallestByte, largestByte, profileOf, aheadIn, unexcusedIn}
-use Rattle.labels.specs.declared.profile.Profile.{Profile}
-use Rattle.labels.proofs.Comparison.{bfs-words, unexcused-bfs}
+use Rattle.labels.specs.Weights.{smallestByte, largestByte}
+use Rattle.labels.specs.Words.{aheadIn, unexcusedIn}
 
 -- ---- the two bytes of a label
 
@@ -110,35 +108,3 @@ module _ (c b : ℕ) where
               absurd (T-not (anyBelow 64 later) t (any-at 64 later (lastBelow 64 (member b)) (top .below)
               (and-in (member b (lastBelow 64 (member b))) (ltb i (lastBelow 64 (member b))) (top .holds) (lt→ltb i (lastBelow 64 (member b)) l))))
           go (inr l) = omega (arith, largest-byte (member b) u)
-
--- ---- two profiles
-
-module _ (s : Search) (c b : Profile) (of-c : c ≡ profileOf s (c .label)) (of-b : b ≡ profileOf s (b .label)) where
-  smallest-of : (x : Profile) → x ≡ profileOf s (x .label) → x .smallest ≡ firstBelow 64 (member (x .label))
-  unfolding profileOf
-  smallest-of x e = ap (λ (y : Profile). y .smallest) e ∙ smallest-byte (member (x .label))
-
-  largest-of : (x : Profile) → x ≡ profileOf s (x .label) → x .largest ≡ largestByte (largestIn 64 (member (x .label)))
-  unfolding profileOf
-  largest-of x e = ap (λ (y : Profile). y .largest) e
-
-  pub bfs-ahead : s ≡ bfs → ltb (c .smallest) (b .smallest) ≡ aheadIn s (c .label) (b .label)
-  bfs-ahead e =
-      ap₂ (λ (x y : ℕ). ltb x y) (smallest-of c of-c) (smallest-of b of-b) ∙ bfs-words (c .label) (b .label)
-      ∙ ap (λ (k : Search). aheadIn k (c .label) (b .label)) (sym e)
-
-  pub dfs-ahead : s ≡ dfs → ltb (b .largest) (c .largest) ≡ aheadIn s (c .label) (b .label)
-  dfs-ahead e =
-      ap₂ (λ (x y : ℕ). ltb x y) (largest-of b of-b) (largest-of c of-c) ∙ dfs-bytes (c .label) (b .label)
-      ∙ ap (λ (k : Search). aheadIn k (c .label) (b .label)) (sym e)
-
-  module _ (i : ℕ) where
-    pub bfs-unexcused : s ≡ bfs → i < 64 → leb i (b .smallest) ≡ unexcusedIn s i (c .label) (b .label)
-    bfs-unexcused e l =
-        ap (λ (x : ℕ). leb i x) (smallest-of b of-b) ∙ unexcused-bfs i (c .label) (b .label) l
-        ∙ ap (λ (k : Search). unexcusedIn k i (c .label) (b .label)) (sym e)
-
-    pub dfs-unexcused : s ≡ dfs → leb (b .largest) (suc i) ≡ unexcusedIn s i (c .label) (b .label)
-    dfs-unexcused e =
-        ap (λ (x : ℕ). leb x (suc i)) (largest-of b of-b) ∙ unexcused-dfs (c .label) (b .label) i
-        ∙ ap (λ (k : Search). unexcusedIn k i (c .label) (b .label)) (sym e)

@@ -58,10 +58,10 @@ module _ (s : Search) (labels : List ℕ) (reached : ℕ) (covers : Covers reach
           and-in (member front u) (ahead u)
           (subst (λ (b : Bool). T b) (sym (in-front free reached e u)) (and-in (member free u) (member reached u) (both .0) (ahead-reached u mine l (both .1)))) (both .1)
 
-pub covers-spread : (labels : List ℕ) (reached row p n : ℕ) {labels′ : List ℕ} {reached′ : ℕ} → Covers reached labels
-    → labels′ ≡ spreadTo row p n labels → reached′ ≡ united reached row → Covers reached′ labels′
-covers-spread labels reached row p n {labels′} {reached′} covers at-labels at-reached v l out =
-    ap (λ (ls : List ℕ). getD ls v 0) at-labels ∙ spread-outside (labelWith p) row labels n v (λ t. outside (or-inr (member reached v) (member row v) t))
+pub covers-spread : (labels : List ℕ) (reached row grown p : ℕ) {labels′ : List ℕ} {reached′ : ℕ} → Covers reached labels
+    → ((v : ℕ) → T (member grown v) → T (member row v)) → labels′ ≡ spreadTo grown p labels → reached′ ≡ united reached row → Covers reached′ labels′
+covers-spread labels reached row grown p {labels′} {reached′} covers part at-labels at-reached v l out =
+    ap (λ (ls : List ℕ). getD ls v 0) at-labels ∙ spread-outside (labelWith p) grown labels 64 v (λ t. outside (or-inr (member reached v) (member row v) (part v t)))
     ∙ covers v l (λ t. outside (or-inl (member reached v) (member row v) t))
   where
     outside : T (member reached v || member row v) → ⊥

@@ -8,8 +8,8 @@
 --   spread-one        a number below the bound may be taken out of the row once it is changed
 --   spread-at         what is kept of a number below the bound;   spread-length   of as many numbers as before
 --   Spreading put row n before kept rest   `rest` is what is left of `row`: it makes of `kept` what `row` makes of `before`
---   spread-start, spread-next, spread-past, spread-end   the spreading begins, goes on below the bound and from it up, and ends
---   SpreadingAll p row n labels₀ smallest₀ largest₀ labels smallest largest rest   labels and running values together: position p is spread
+--   spread-start, spread-next, spread-past, spread-due, spread-end   the spreading begins, goes on below the bound and from it up, what is due, and the end
+--   SpreadingAll p row labels₀ smallest₀ largest₀ labels smallest largest rest   labels and running values together: position p is spread
 -- Assumes nothing.
 use mathlib.Core.Path.{_≡_, refl, sym, ap, ap₂, _∙_, subst}
 use mathlib.Core.Bool.{Bool, cond}
@@ -127,16 +127,18 @@ module _ (put : ℕ → ℕ) where
   module _ (row n : ℕ) (before : List ℕ) where
     pub record Spreading (kept : List ℕ) (rest : ℕ) : Type 0 where
       pub word : rest < 2 ^ 64
+      pub part : (u : ℕ) → T (member rest u) → T (member row u)
       pub left : spreadBy put rest n kept ≡ spreadBy put row n before
 
     pub spread-start : row < 2 ^ 64 → Spreading before row
-    spread-start h = record { word = h; left = refl }
+    spread-start h = record { word = h; part = λ u t. t; left = refl }
 
     -- v is taken out of what is left, if that leaves the same to make
     taken-out : (kept kept′ : List ℕ) (rest v : ℕ) → Spreading kept rest → spreadBy put (removed rest v) n kept′ ≡ spreadBy put rest n kept
         → Spreading kept′ (removed rest v)
     taken-out kept kept′ rest v r e = record {
       word = word.removed-word (r .word) v;
+      part = λ u t. r .part u (removed-in rest v u t .1);
       left = e ∙ r .left;
     }
 
@@ -153,11 +155,18 @@ module _ (put : ℕ → ℕ) where
     spread-past kept kept′ rest r v l same =
         taken-out kept kept′ rest v r (ap (λ (ls : List ℕ). spreadBy put (removed rest v) n ls) same ∙ spread-beyond kept rest v n l)
 
+    -- what a number that is left will get is what it has at the end
+    pub spread-due : (kept : List ℕ) (rest : ℕ) → Spreading kept rest → n ≤ length before → (v : ℕ) → v < n → T (member rest v) → put (getD kept v 0) ≡ getD (spreadBy put row n before) v 0
+    unfolding changedBy
+    spread-due kept rest r long v l t =
+        let same = sym (spread-length rest kept n) ∙ ap (λ (ls : List ℕ). length ls) (r .left) ∙ spread-length row before n in
+        sym (cond-yes (member rest v) (put (getD kept v 0)) (getD kept v 0) t) ∙ sym (spread-at rest kept n v (omega arith) l) ∙ ap (λ (ls : List ℕ). getD ls v 0) (r .left)
+
     pub spread-end : (kept : List ℕ) → Spreading kept 0 → kept ≡ spreadBy put row n before
     spread-end kept r = sym (spread-none n kept) ∙ r .left
 
 -- the labels and the running values beside them, while position p is put into those of a row
-abbrev pub SpreadingAll : ℕ → ℕ → ℕ → List ℕ → List ℕ → List ℕ → List ℕ → List ℕ → List ℕ → ℕ → Type 0
-SpreadingAll p row n labels₀ smallest₀ largest₀ labels smallest largest rest =
-    Spreading (labelWith p) row n labels₀ labels rest × Spreading (smallestWith p) row n smallest₀ smallest rest
-    × Spreading (largestWith p) row n largest₀ largest rest
+abbrev pub SpreadingAll : ℕ → ℕ → List ℕ → List ℕ → List ℕ → List ℕ → List ℕ → List ℕ → ℕ → Type 0
+SpreadingAll p row labels₀ smallest₀ largest₀ labels smallest largest rest =
+    Spreading (labelWith p) row 64 labels₀ labels rest × Spreading (smallestWith p) row 64 smallest₀ smallest rest
+    × Spreading (largestWith p) row 64 largest₀ largest rest

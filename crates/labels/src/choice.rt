@@ -3,87 +3,38 @@ use crate::profile::profile_of;
 use searches::Kind;
 use searches::Vertex;
 ghost use mathlib.Core.Path.{_≡_};
-ghost use Prim.Native.Nat.{_<_};
+ghost use Prim.Native.Nat.{ℕ, _≤_, _<_};
+ghost use lib.ListN.{length, replicate};
+ghost use Rattle.bitset.specs.Below.{lastBelow};
+ghost use Rattle.bitset.specs.Word.{member};
 ghost use Rattle.searches.specs.Kind.{searchOf};
 ghost use Rattle.searches.specs.Ordering.{at};
-ghost use Rattle.labels.specs.Words.{Consistent, Champion, Covers, openIn, chosenIn};
+ghost use Rattle.labels.specs.Words.{Weighed, Covers, Offers, openIn, chosenIn};
+ghost use Rattle.labels.specs.Ranks.{ranksBelow, Ranked, Named};
 
-// A vertex of `free`, which is not empty, that no other vertex of it is ahead of. Only one that is reached is ahead of another.
-fn champion(
+// Whether `v` is offered. `offered` are the offered vertices, and `reached` holds every vertex whose label is not empty. In MNS `v` is compared with the
+// reached ones.
+pub fn is_open(
     kind: Kind,
-    columns: &[u64],
     labels: &[u64; 64],
-    smallest: &[u8; 64],
-    largest: &[u8; 64],
-    placed: u64,
+    weights: &[u64; 64],
     free: u64,
     reached: u64,
-) -> Vertex
-    requires { ⌜ (0 < free) × Covers reached (now labels) × Consistent (now columns) (now labels) (now smallest) (now largest) placed ⌝ }
-    ensures { λ r. ⌜ Champion (searchOf (kind .0)) (now (labels .entry)) free (r .0) ⌝ }
-{
-    let front = bitset::common(free, reached);
-    if front == 0 {
-        let first = bitset::smallest(free) as u8;
-        return Vertex(first);
-    }
-    let mut best = Vertex(bitset::smallest(front) as u8);
-    let mut lead = profile_of(kind, columns, labels, smallest, largest, placed, best);
-    let mut rest = bitset::without_smallest(front);
-    while rest != 0 {
-        let u = Vertex(bitset::smallest(rest) as u8);
-        let next = profile_of(kind, columns, labels, smallest, largest, placed, u);
-        if crate::tells_ahead(crate::compare(kind, next, lead)) {
-            best = u;
-            lead = next;
-        }
-        rest = bitset::without_smallest(rest);
-    }
-    best
-}
-
-// Whether `v` is offered. `best` is a champion: it is offered itself, and except in MNS so is every vertex that it is not ahead of.
-fn is_open(
-    kind: Kind,
-    columns: &[u64],
-    labels: &[u64; 64],
-    smallest: &[u8; 64],
-    largest: &[u8; 64],
-    placed: u64,
-    free: u64,
-    reached: u64,
-    best: Vertex,
+    offered: u64,
     v: Vertex,
 ) -> bool
-    requires { ⌜ Champion (searchOf (kind .0)) (now labels) free (best .0) × Covers reached (now labels) × Consistent (now columns) (now labels) (now smallest) (now largest) placed ⌝ }
+    requires { ⌜ Offers (searchOf (kind .0)) (now labels) free offered × Covers reached (now labels) × Weighed (searchOf (kind .0)) (now labels) (now weights) ⌝ }
     ensures { λ r. ⌜ r ≡ openIn (searchOf (kind .0)) (now (labels .entry)) free (v .0) ⌝ }
 {
     let number = v.0 as usize;
-    let leader = best.0 as usize;
+    if kind.0 != Kind::MNS.0 {
+        return bitset::contains(offered, number);
+    }
     if !bitset::contains(free, number) {
         return false;
     }
-    if number == leader {
-        return true;
-    }
-    let mine = profile_of(kind, columns, labels, smallest, largest, placed, v);
-    let lead = profile_of(kind, columns, labels, smallest, largest, placed, best);
-    if crate::tells_ahead(crate::compare(kind, lead, mine)) {
-        return false;
-    }
-    if kind.0 != Kind::MNS.0 {
-        return true;
-    }
-    !crate::is_beaten(
-        kind,
-        columns,
-        labels,
-        smallest,
-        largest,
-        placed,
-        bitset::common(free, reached),
-        mine,
-    )
+    let mine = profile_of(labels, weights, v);
+    !crate::is_beaten(kind, labels, weights, bitset::common(free, reached), mine)
 }
 
 // The vertex at `i` of `list`; 0 behind its end.
@@ -97,52 +48,59 @@ fn entry(list: &[u8], i: usize) -> Vertex
     }
 }
 
-// The offered vertex that stands last in `tie_break`; its first entry where none is offered. `reached` holds every
-// vertex whose label is not empty.
+// Writes where each vertex of `tie_break` stands in it; `ranks` comes in with zeros.
+pub fn rank(tie_break: &[u8], ranks: &mut [u8; 64])
+    requires { ⌜ (length (now «tie_break») ≤ 64) × ((q : ℕ) → q < length (now «tie_break») → at (now «tie_break») q < 64) × (now ranks ≡ replicate 64 0) ⌝ }
+    ensures { λ r. ⌜ now (ranks .exit) ≡ ranksBelow (now («tie_break» .entry)) (length (now («tie_break» .entry))) ⌝ }
+{
+    for q in 0..tie_break.len() {
+        let v = tie_break[q] as usize;
+        ranks[v] = q as u8;
+    }
+}
+
+// The vertex of `set` that stands last in `tie_break`; its first entry where the set is empty. `ranks` says where each vertex stands.
+fn last_of(tie_break: &[u8], ranks: &[u8; 64], set: u64) -> Vertex
+    requires { ⌜ (length (now «tie_break») ≤ 64) × Ranked (now «tie_break») (now ranks) × Named (now «tie_break») set ⌝ }
+    ensures { λ r. ⌜ r .0 ≡ at (now («tie_break» .entry)) (lastBelow (length (now («tie_break» .entry))) (λ q. member set (at (now («tie_break» .entry)) q))) ⌝ }
+{
+    let mut most = 0u8;
+    let mut rest = set;
+    while rest != 0 {
+        let place = ranks[bitset::smallest(rest)];
+        most = if most < place { place } else { most };
+        rest = bitset::without_smallest(rest);
+    }
+    entry(tie_break, most as usize)
+}
+
+// The offered vertex that stands last in `tie_break`; its first entry where none is offered. `offered` are the offered vertices, `ranks` says where each vertex
+// stands in the tie-break, and `reached` holds every vertex whose label is not empty. In MNS the tie-break is read from its end.
 pub fn choose(
     kind: Kind,
-    columns: &[u64],
     labels: &[u64; 64],
-    smallest: &[u8; 64],
-    largest: &[u8; 64],
-    placed: u64,
+    weights: &[u64; 64],
     free: u64,
     reached: u64,
+    offered: u64,
     tie_break: &[u8],
+    ranks: &[u8; 64],
 ) -> Vertex
-    requires { ⌜ Covers reached (now labels) × Consistent (now columns) (now labels) (now smallest) (now largest) placed ⌝ }
+    requires { ⌜
+        Offers (searchOf (kind .0)) (now labels) free offered × Covers reached (now labels) × Weighed (searchOf (kind .0)) (now labels) (now weights)
+        × (length (now «tie_break») ≤ 64) × Ranked (now «tie_break») (now ranks) × Named (now «tie_break») free
+        ⌝ }
     ensures { λ r. ⌜ r .0 ≡ chosenIn (searchOf (kind .0)) (now (labels .entry)) free (now («tie_break» .entry)) ⌝ }
 {
-    if free == 0 {
-        return entry(tie_break, 0);
+    if kind.0 != Kind::MNS.0 {
+        return last_of(tie_break, ranks, offered);
     }
-    let best = champion(
-        kind,
-        columns,
-        labels,
-        smallest,
-        largest,
-        placed,
-        free,
-        reached,
-    );
     let length = tie_break.len();
     let mut passed = 0;
     while passed < length {
         passed += 1;
         let v = entry(tie_break, length - passed);
-        if is_open(
-            kind,
-            columns,
-            labels,
-            smallest,
-            largest,
-            placed,
-            free,
-            reached,
-            best,
-            v,
-        ) {
+        if is_open(kind, labels, weights, free, reached, offered, v) {
             return v;
         }
     }

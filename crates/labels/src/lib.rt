@@ -1,9 +1,11 @@
 // Labels kept as words: bit p of a vertex's word is set when the vertex at position p leads to it. Beside them stand the running values: each
-// vertex's smallest position, 64 where it has none, and one more than its largest position, 0 where it has none. So the one that is ahead in BFS
-// has the smaller byte, and in DFS the greater. What is compared of a vertex, the comparison of two, the step that a placed vertex makes, and the
-// choice by a tie-break.
+// vertex's smallest position, 64 where it has none, and one more than its largest position, 0 where it has none; and the weight of its label, by which
+// it is compared in every search but MNS. Only what is kept of unplaced vertices is changed and asked for. What is compared of a vertex, the comparison
+// of two, the step that a placed vertex makes, the open vertices, and the choice by a tie-break.
 pub mod choice;
+pub mod leaders;
 pub mod profile;
+mod weight;
 
 use crate::profile::Profile;
 use crate::profile::profile_of;
@@ -14,8 +16,9 @@ use searches::Vertex;
 ghost use mathlib.Core.Path.{_≡_};
 ghost use Prim.Native.Nat.{_<_};
 ghost use Rattle.searches.specs.Kind.{searchOf};
-ghost use Rattle.searches.specs.Comparison.{toldBy, isAhead};
-ghost use Rattle.labels.specs.Words.{Consistent, profileOf, comparedIn, unexcusedIn, spreadTo, smallestWith, smallestTo, largestTo, beatenIn};
+ghost use Rattle.searches.specs.Comparison.{toldBy, isAhead, isLevel};
+ghost use Rattle.labels.specs.Words.{Weighed, profileOf, comparedIn, unexcusedIn, spreadTo, smallestWith, smallestTo, largestTo, beatenIn};
+ghost use Rattle.labels.specs.Weights.{Consistent};
 
 // The answer of three tests: the first that holds, and where none does, neither.
 fn told_by(ahead: bool, behind: bool, level: bool) -> Comparison
@@ -34,50 +37,17 @@ fn told_by(ahead: bool, behind: bool, level: bool) -> Comparison
 }
 
 // How a vertex of profile `c` stands to one of profile `b`. In MNS two inclusions tell it: where none is ahead, both hold or none does. In the
-// other searches who is ahead tells it: where none is, the two are level. MNS is tested first, then the kinds below LexBFS, then the others: the
-// compiler splits a loop that calls this into one for each of several kinds, and into fewer where all seven tests stand in a row.
+// other searches the weights tell it: where none is greater, the two are level.
 pub fn compare(kind: Kind, c: Profile, b: Profile) -> Comparison
     requires { ⌜ (c ≡ profileOf (searchOf (kind .0)) (c .label)) × (b ≡ profileOf (searchOf (kind .0)) (b .label)) ⌝ }
     ensures { λ r. ⌜ r ≡ comparedIn (searchOf (kind .0)) (c .label) (b .label) ⌝ }
 {
-    let search = kind.0;
-    if search == Kind::MNS.0 {
+    if kind.0 == Kind::MNS.0 {
         let covers = bitset::subset(b.label, c.label);
         let covered = bitset::subset(c.label, b.label);
         return told_by(covers & !covered, covered & !covers, covers);
     }
-    if search < Kind::LEX_BFS.0 {
-        if search == Kind::BFS.0 {
-            return told_by(c.smallest < b.smallest, b.smallest < c.smallest, true);
-        }
-        if search == Kind::DFS.0 {
-            return told_by(b.largest < c.largest, c.largest < b.largest, true);
-        }
-    } else {
-        if search == Kind::LEX_BFS.0 {
-            let p = bitset::lowest_difference(c.label, b.label);
-            return told_by(
-                bitset::contains(c.label, p),
-                bitset::contains(b.label, p),
-                true,
-            );
-        }
-        if search == Kind::LEX_DFS.0 {
-            return told_by(
-                bitset::above(c.label, b.label),
-                bitset::above(b.label, c.label),
-                true,
-            );
-        }
-        if search == Kind::MCS.0 {
-            return told_by(b.count < c.count, c.count < b.count, true);
-        }
-    }
-    told_by(
-        (c.label != 0) & (b.label == 0),
-        (b.label != 0) & (c.label == 0),
-        true,
-    )
+    told_by(b.weight < c.weight, c.weight < b.weight, true)
 }
 
 // Whether the answer is that the first is ahead.
@@ -92,7 +62,20 @@ fn tells_ahead(answer: Comparison) -> bool
     }
 }
 
-// Whether nothing excuses that a vertex of profile `b` came before one of profile `c`, with `position` in the label of `c` and not of `b`.
+// Whether the answer is that the two are level.
+fn tells_level(answer: Comparison) -> bool
+    ensures { λ r. ⌜ r ≡ isLevel answer ⌝ }
+{
+    match answer {
+        Comparison::Ahead => false,
+        Comparison::Behind => false,
+        Comparison::Level => true,
+        Comparison::Neither => false,
+    }
+}
+
+// Whether nothing excuses that a vertex of profile `b` came before one of profile `c`, with `position` in the label of `c` and not of `b`. In BFS and
+// DFS the weight is a running value, counted from 64 down in BFS.
 pub fn is_unexcused(kind: Kind, position: Position, c: Profile, b: Profile) -> bool
     requires { ⌜ (position .0 < 64) × (c ≡ profileOf (searchOf (kind .0)) (c .label)) × (b ≡ profileOf (searchOf (kind .0)) (b .label)) ⌝ }
     ensures { λ r. ⌜ r ≡ unexcusedIn (searchOf (kind .0)) (position .0) (c .label) (b .label) ⌝ }
@@ -100,10 +83,10 @@ pub fn is_unexcused(kind: Kind, position: Position, c: Profile, b: Profile) -> b
     let search = kind.0;
     let i = position.0;
     if search == Kind::BFS.0 {
-        return i <= b.smallest as usize;
+        return b.weight <= (64 - i) as u64;
     }
     if search == Kind::DFS.0 {
-        return b.largest as usize <= i + 1;
+        return b.weight <= (i + 1) as u64;
     }
     if search == Kind::LEX_BFS.0 {
         return i <= bitset::smallest(bitset::without(b.label, c.label));
@@ -127,20 +110,28 @@ fn smallest_with(latest: u8, kept: u8) -> u8
     if kept == 64 { latest } else { kept }
 }
 
-// Puts `position` into the labels of the vertices below `n` that `row` leads to, and into their running values. Positions are put in ascending
-// order: the first one that a vertex gets is its smallest, the last one its largest.
+// Puts `position` into the labels of the vertices of `row`, and into their running values, and weighs their labels anew. Positions are put in ascending
+// order: the first one that a vertex gets is its smallest, the last one its largest. `columns` are the graph's rows, transposed, and `placed` holds the
+// vertices that are placed, the one at `position` too.
 pub fn spread(
+    kind: Kind,
+    columns: &[u64],
+    placed: u64,
     labels: &mut [u64; 64],
     smallest: &mut [u8; 64],
     largest: &mut [u8; 64],
+    weights: &mut [u64; 64],
     row: u64,
     position: Position,
-    n: usize,
 )
-    requires { ⌜ position .0 < 64 ⌝ }
-    ensures labels { λ r. ⌜ now (labels .exit) ≡ spreadTo row (position .0) n (now (labels .entry)) ⌝ }
-    ensures smallest { λ r. ⌜ now (smallest .exit) ≡ smallestTo row (position .0) n (now (smallest .entry)) ⌝ }
-    ensures largest { λ r. ⌜ now (largest .exit) ≡ largestTo row (position .0) n (now (largest .entry)) ⌝ }
+    requires { ⌜
+        (position .0 < 64) × Weighed (searchOf (kind .0)) (now labels) (now weights)
+        × Consistent (now columns) placed row (spreadTo row (position .0) (now labels)) (smallestTo row (position .0) (now smallest)) (largestTo row (position .0) (now largest))
+        ⌝ }
+    ensures labels { λ r. ⌜ now (labels .exit) ≡ spreadTo row (position .0) (now (labels .entry)) ⌝ }
+    ensures smallest { λ r. ⌜ now (smallest .exit) ≡ smallestTo row (position .0) (now (smallest .entry)) ⌝ }
+    ensures largest { λ r. ⌜ now (largest .exit) ≡ largestTo row (position .0) (now (largest .entry)) ⌝ }
+    ensures weights { λ r. ⌜ Weighed (searchOf (kind .0)) (now (labels .exit)) (now (weights .exit)) ⌝ }
 {
     let p = position.0;
     let latest = p as u8;
@@ -148,12 +139,24 @@ pub fn spread(
     let mut rest = row;
     while rest != 0 {
         let v = bitset::smallest(rest);
-        if v < n {
-            let first = smallest_with(latest, smallest[v]);
-            labels[v] = bitset::insert(labels[v], p);
-            smallest[v] = first;
-            largest[v] = past;
-        }
+        let number = v as u8;
+        let first = smallest_with(latest, smallest[v]);
+        let label = bitset::insert(labels[v], p);
+        let weight = weight::weigh(
+            kind,
+            columns,
+            placed,
+            Vertex(number),
+            position,
+            label,
+            first,
+            past,
+            weights[v],
+        );
+        labels[v] = label;
+        smallest[v] = first;
+        largest[v] = past;
+        weights[v] = weight;
         rest = bitset::without_smallest(rest);
     }
 }
@@ -161,21 +164,18 @@ pub fn spread(
 // Whether a vertex of `free` is ahead of one of profile `mine`.
 pub fn is_beaten(
     kind: Kind,
-    columns: &[u64],
     labels: &[u64; 64],
-    smallest: &[u8; 64],
-    largest: &[u8; 64],
-    placed: u64,
+    weights: &[u64; 64],
     free: u64,
     mine: Profile,
 ) -> bool
-    requires { ⌜ (mine ≡ profileOf (searchOf (kind .0)) (mine .label)) × Consistent (now columns) (now labels) (now smallest) (now largest) placed ⌝ }
+    requires { ⌜ (mine ≡ profileOf (searchOf (kind .0)) (mine .label)) × Weighed (searchOf (kind .0)) (now labels) (now weights) ⌝ }
     ensures { λ r. ⌜ r ≡ beatenIn (searchOf (kind .0)) (now (labels .entry)) free (mine .label) ⌝ }
 {
     let mut rest = free;
     while rest != 0 {
         let u = bitset::smallest(rest) as u8;
-        let next = profile_of(kind, columns, labels, smallest, largest, placed, Vertex(u));
+        let next = profile_of(labels, weights, Vertex(u));
         if tells_ahead(compare(kind, next, mine)) {
             return true;
         }

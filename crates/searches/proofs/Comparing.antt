@@ -1,11 +1,12 @@
 -- Two labels compared: exactly one of the four answers holds.
 --   ahead-first, ahead-told          the answer is that the first is ahead exactly where it is
+--   level-left, level-told           except in MNS, it is that they are level exactly where neither is ahead
 --   compared-ranked, compared-mns    who is ahead decides the answer, in MNS with the equality of labels
 --   neither-in, neither-out          what is left where the other three answers do not hold
 --   exactly-one                      compared: the one answer that holds
 --   neither-mns                      neither comes with MNS alone;   turned-round   the two turned round;   level-itself   a label and itself
 -- Assumes nothing.
-use mathlib.Core.Path.{_≡_, refl, sym, _∙_, subst}
+use mathlib.Core.Path.{_≡_, refl, sym, ap, _∙_, subst}
 use mathlib.Core.Bool.{Bool, true, false, not, _&&_}
 use mathlib.Core.Logic.{_⊎_, inl, inr, _≢_, _↔_}
 use Prim.Native.Nat.{ℕ}
@@ -13,7 +14,7 @@ use lib.Dec.{T, not-T, T-not}
 use Rattle.bitset.proofs.Tests.{and-in, and-out, decided, cond-yes, cond-no, cond-else}
 use Rattle.searches.specs.Kind.{Search, mns}
 use Rattle.searches.specs.Label.{outranks}
-use Rattle.searches.specs.Comparison.{alike, level, stands, toldBy, compared, isAhead, turned}
+use Rattle.searches.specs.Comparison.{alike, level, stands, toldBy, compared, isAhead, isLevel, turned}
 use Rattle.searches.specs.declared.Comparison.{Comparison}
 use Rattle.searches.proofs.StrictOrder.{outranks-irreflexive, outranks-transitive}
 use Rattle.searches.proofs.Level.{Unranked, except-mns, level-unranked, unranked-level, level-refl, level-sym}
@@ -25,6 +26,13 @@ ahead-first true y z = refl
 ahead-first false true z = refl
 ahead-first false false true = refl
 ahead-first false false false = refl
+
+-- what is left of two tests
+level-left : (x y : Bool) → isLevel (toldBy x y true) ≡ (not x && not y)
+unfolding isLevel toldBy
+level-left true y = refl
+level-left false true = refl
+level-left false false = refl
 
 -- in MNS equal labels are level
 pub compared-mns : (k : ℕ) (c b : ℕ → Bool) → toldBy (outranks mns k c b) (outranks mns k b c) (alike k c b) ≡ compared mns k c b
@@ -43,6 +51,9 @@ module _ (s : Search) (k : ℕ) (c b : ℕ → Bool) where
   compared-ranked other =
       cond-else (outranks s k c b) Comparison.Ahead (λ ahead. cond-else (outranks s k b c) Comparison.Behind (λ behind.
       sym (cond-yes (level s k c b) Comparison.Level Comparison.Neither (unranked-level s other k c b (ahead, behind)))))
+
+  pub level-told : s ≢ mns → isLevel (compared s k c b) ≡ (not (outranks s k c b) && not (outranks s k b c))
+  level-told other = ap isLevel (sym (compared-ranked other)) ∙ level-left (outranks s k c b) (outranks s k b c)
 
   neither-out : T (stands s k c b Comparison.Neither) → Unranked s k c b × (T (level s k c b) → ⊥)
   unfolding stands

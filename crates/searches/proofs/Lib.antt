@@ -1,5 +1,6 @@
 pub mod Reason
 pub mod AheadToo
+pub mod More
 pub mod StrictOrder
 pub mod Running
 pub mod Maximal

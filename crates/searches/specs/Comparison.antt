@@ -5,7 +5,7 @@
 --   stands s k c b answer       c stands to b as the answer says: ahead, behind, level, or what is left      [02, K6]
 --   toldBy ahead behind level   the answer of three tests: the first that holds, and where none does, neither
 --   compared s k c b            how c stands to b                                                            [02, K6]
---   isAhead answer              it says that the first is ahead
+--   isAhead, isLevel answer     it says that the first is ahead, that the two are level
 --   turned answer               the answer where the two are turned round
 use Prim.Native.Nat.{ℕ}
 use mathlib.Core.Bool.{Bool, true, false, cond, not, _&&_, _||_}
@@ -53,6 +53,12 @@ isAhead Comparison.Ahead = true
 isAhead Comparison.Behind = false
 isAhead Comparison.Level = false
 isAhead Comparison.Neither = false
+
+unfoldable pub isLevel : Comparison → Bool
+isLevel Comparison.Ahead = false
+isLevel Comparison.Behind = false
+isLevel Comparison.Level = true
+isLevel Comparison.Neither = false
 
 unfoldable pub turned : Comparison → Comparison
 turned Comparison.Ahead = Comparison.Behind

@@ -67,7 +67,7 @@ module _ (s : Search) (rows w labels : List ℕ) (free k j i : ℕ) {front mine 
           (sym (is-true (not (eqb c (at w j)))
           (not-T (eqb c (at w j)) (λ same. T-not (arcs rows (at w i) (at w j)) (both .1) (subst (λ (x : ℕ). T (arcs rows (at w i) x)) (eqb→eq c (at w j) same) (both .0))))))
 
-  module _ {columns smallest largest : List ℕ} {set : ℕ} (able : Searchable rows columns w k labels smallest largest set free j) where
+  module _ {weights : List ℕ} (able : Searchable s rows w k labels weights free j) where
     abbrev n : ℕ
     n = length rows
 

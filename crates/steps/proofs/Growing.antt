@@ -3,7 +3,8 @@
 --   kept-grown, labels-grown, free-grown, set-grown   the words after one vertex more
 --   choice-same                    the choice is the vertex that the words choose
 --   ordering-grown                 an ordering with an unplaced vertex behind it is an ordering
---   along-start, along-next        words along an ordering, from its start on;   along-consistent   they agree with one another
+--   along-start, along-next, along-same   words along an ordering, from its start on;   along-consistent   they agree with one another for unplaced vertices
+--   along-named                    every unplaced vertex stands in a tie-break;   names-below, names-ranked   its vertices, and its ranks
 -- Assumes nothing.
 use mathlib.Core.Path.{_≡_, refl, sym, ap, ap₂, _∙_, subst}
 use mathlib.Core.Bool.{Bool}
@@ -13,41 +14,45 @@ use Prim.Native.Nat.{ℕ, zero, suc, _+_, _≤_, _<_}
 use native.Mathlib.Omega.{arith}
 use native.Mathlib.Numerals.{add-one}
 use lib.Dec.{T}
-use lib.ListN.{length, getD, take}
+use lib.ListN.{length, take}
 use lib.Seq.{length-take-le}
-use Rattle.bitset.specs.Word.{inserted, removed}
+use Rattle.bitset.specs.Word.{member, inserted, removed}
 use Rattle.bitset.proofs.Tests.{below-suc}
 use Rattle.bitset.proofs.Below.{last-same}
 use Rattle.searches.specs.Kind.{Search}
 use Rattle.searches.specs.Ordering.{arcs, at, placed, IsOrdering, IsFullOrdering}
 use Rattle.searches.specs.Run.{offered}
 use Rattle.searches.specs.CarryOn.{choice}
-use Rattle.searches.proofs.Ordering.{Agree, agree-sym, agree-fewer, take-agree, placed-in, ordering-agree, length-grown, grown-agree, grown-last}
+use Rattle.searches.proofs.Ordering.{Agree, agree-sym, agree-fewer, take-agree, placed-in, placed-out, ordering-agree, all-placed, length-grown, grown-agree, grown-last}
 use Rattle.searches.proofs.Run.{offered-out}
 use Rattle.searches.proofs.CarryOn.{chosen-offered}
-use Rattle.labels.specs.Words.{Consistent, labelWith, smallestWith, largestWith, spreadBy, spreadTo, smallestTo, largestTo, openIn, chosenIn}
+use Rattle.labels.specs.Weights.{Consistent}
+use Rattle.labels.specs.Words.{labelWith, smallestWith, largestWith, spreadBy, spreadTo, smallestTo, largestTo, openIn, chosenIn}
+use Rattle.labels.specs.Ranks.{ranksBelow, Ranked, Named}
+use Rattle.labels.proofs.Ranking.{ranked}
 use Rattle.steps.specs.Columns.{Transposed}
-use Rattle.steps.specs.Steps.{keptAfter, labelsAfter, smallestAfter, largestAfter, freeAfter, placedAfter, Along}
-use Rattle.steps.proofs.Representation.{open-offered}
+use Rattle.steps.specs.Steps.{grownBy, keptAfter, labelsAfter, smallestAfter, largestAfter, freeAfter, placedAfter, Along}
+use Rattle.steps.proofs.Representation.{free-vertex, open-offered}
 use Rattle.steps.proofs.Tracking.{consistent-after}
 
 -- ---- only the first j vertices matter
-
-pub kept-agree : (put : ℕ → ℕ → ℕ) (start : ℕ) (rows w w′ : List ℕ) (j : ℕ) → Agree j w w′ → keptAfter put start rows w j ≡ keptAfter put start rows w′ j
-unfolding keptAfter
-kept-agree put start rows w w′ zero a = refl
-kept-agree put start rows w w′ (suc j) a =
-    ap₂ (λ (v : ℕ) (kept : List ℕ). spreadBy (put j) (getD rows v 0) (length rows) kept) (a j (omega arith))
-    (kept-agree put start rows w w′ j (agree-fewer j (suc j) w w′ (omega arith) a))
-
-pub labels-agree : (rows w w′ : List ℕ) (j : ℕ) → Agree j w w′ → labelsAfter rows w j ≡ labelsAfter rows w′ j
-labels-agree rows w w′ j a = kept-agree labelWith 0 rows w w′ j a
 
 pub free-agree : (n : ℕ) (w w′ : List ℕ) (j : ℕ) → Agree j w w′ → freeAfter n w j ≡ freeAfter n w′ j
 unfolding freeAfter
 free-agree n w w′ zero a = refl
 free-agree n w w′ (suc j) a =
     ap₂ (λ (free v : ℕ). removed free v) (free-agree n w w′ j (agree-fewer j (suc j) w w′ (omega arith) a)) (a j (omega arith))
+
+pub kept-agree : (put : ℕ → ℕ → ℕ) (start : ℕ) (rows w w′ : List ℕ) (j : ℕ) → Agree j w w′ → keptAfter put start rows w j ≡ keptAfter put start rows w′ j
+unfolding keptAfter
+kept-agree put start rows w w′ zero a = refl
+kept-agree put start rows w w′ (suc j) a =
+    let fewer = agree-fewer j (suc j) w w′ (omega arith) a in
+    ap₂ (λ (row : ℕ) (kept : List ℕ). spreadBy (put j) row 64 kept)
+    (ap₂ (λ (free v : ℕ). grownBy rows free v) (free-agree (length rows) w w′ j fewer) (a j (omega arith))) (kept-agree put start rows w w′ j fewer)
+
+pub labels-agree : (rows w w′ : List ℕ) (j : ℕ) → Agree j w w′ → labelsAfter rows w j ≡ labelsAfter rows w′ j
+labels-agree rows w w′ j a = kept-agree labelWith 0 rows w w′ j a
 
 pub set-agree : (w w′ : List ℕ) (j : ℕ) → Agree j w w′ → placedAfter w j ≡ placedAfter w′ j
 unfolding placedAfter
@@ -57,14 +62,16 @@ set-agree w w′ (suc j) a =
 
 module _ (w : List ℕ) (v : ℕ) where
   pub kept-grown : (put : ℕ → ℕ → ℕ) (start : ℕ) (rows : List ℕ)
-      → keptAfter put start rows (w ++ v ∷ []) (suc (length w)) ≡ spreadBy (put (length w)) (getD rows v 0) (length rows) (keptAfter put start rows w (length w))
+      → keptAfter put start rows (w ++ v ∷ []) (suc (length w))
+      ≡ spreadBy (put (length w)) (grownBy rows (freeAfter (length rows) w (length w)) v) 64 (keptAfter put start rows w (length w))
   unfolding keptAfter
   kept-grown put start rows =
-      ap₂ (λ (x : ℕ) (kept : List ℕ). spreadBy (put (length w)) (getD rows x 0) (length rows) kept) (grown-last w v)
+      ap₂ (λ (row : ℕ) (kept : List ℕ). spreadBy (put (length w)) row 64 kept)
+      (ap₂ (λ (free x : ℕ). grownBy rows free x) (free-agree (length rows) (w ++ v ∷ []) w (length w) (grown-agree w v)) (grown-last w v))
       (kept-agree put start rows (w ++ v ∷ []) w (length w) (grown-agree w v))
 
   pub labels-grown : (rows : List ℕ)
-      → labelsAfter rows (w ++ v ∷ []) (suc (length w)) ≡ spreadTo (getD rows v 0) (length w) (length rows) (labelsAfter rows w (length w))
+      → labelsAfter rows (w ++ v ∷ []) (suc (length w)) ≡ spreadTo (grownBy rows (freeAfter (length rows) w (length w)) v) (length w) (labelsAfter rows w (length w))
   labels-grown rows = kept-grown labelWith 0 rows
 
   pub free-grown : (n : ℕ) → freeAfter n (w ++ v ∷ []) (suc (length w)) ≡ removed (freeAfter n w (length w)) v
@@ -113,24 +120,28 @@ module _ (s : Search) (rows : List ℕ) (small : length rows ≤ 64) where
       let x = offered-out s arc n w (length w) (choice s arc n t w (length w)) (chosen-offered s arc n t names w o l) in
       (subst (λ (u : ℕ). u < n) (sym at-v) (x .vertex), λ p. x .unplaced (subst (λ (u : ℕ). T (placed w (length w) u)) at-v p))
 
-  pub along-next : (t : List ℕ) → IsFullOrdering n t → {p v set free : ℕ} {labels smallest largest : List ℕ} (labels′ smallest′ largest′ : List ℕ) (set′ free′ : ℕ)
-      → Along rows p labels smallest largest set free → p < n → v ≡ chosenIn s labels free t → labels′ ≡ spreadTo (getD rows v 0) p n labels
-      → smallest′ ≡ smallestTo (getD rows v 0) p n smallest → largest′ ≡ largestTo (getD rows v 0) p n largest → set′ ≡ inserted set v → free′ ≡ removed free v
-      → Along rows (p + 1) labels′ smallest′ largest′ set′ free′
-  along-next t names {p} {v} {set} {free} {labels} {smallest} {largest} labels′ smallest′ largest′ set′ free′ a l at-v at-labels at-smallest at-largest at-set at-free =
-      subst (λ (m : ℕ). Along rows m labels′ smallest′ largest′ set′ free′) (ap suc (a .long) ∙ sym (add-one p)) (record {
+  pub along-next : (t : List ℕ) → IsFullOrdering n t → {p v set free : ℕ} {labels smallest largest : List ℕ}
+      → Along rows p labels smallest largest set free → p < n → v ≡ chosenIn s labels free t
+      → let grown = grownBy rows free v in
+      Along rows (p + 1) (spreadTo grown p labels) (smallestTo grown p smallest) (largestTo grown p largest) (inserted set v) (removed free v)
+  along-next t names {p} {v} {set} {free} {labels} {smallest} {largest} a l at-v =
+      subst (λ (m : ℕ). Along rows m (spreadTo grown p labels) (smallestTo grown p smallest) (largestTo grown p largest) (inserted set v) (removed free v))
+      (ap suc (a .long) ∙ sym (add-one p)) (record {
         walk = w ++ v ∷ [];
         long = length-grown w v;
         ordering = ordering-grown w v o (fresh .0) (fresh .1);
-        labelled = grown labelWith 0 at-labels (a .labelled);
-        smallest-after = grown smallestWith 64 at-smallest (a .smallest-after);
-        largest-after = grown largestWith 0 at-largest (a .largest-after);
-        set = at-set ∙ ap (λ (x : ℕ). inserted x v) (after (λ m. placedAfter w m) (a .set)) ∙ sym (set-grown w v);
-        unplaced = at-free ∙ ap (λ (x : ℕ). removed x v) (after (λ m. freeAfter n w m) (a .unplaced)) ∙ sym (free-grown w v n);
+        labelled = with-v labelWith 0 (a .labelled);
+        smallest-after = with-v smallestWith 64 (a .smallest-after);
+        largest-after = with-v largestWith 0 (a .largest-after);
+        set = ap (λ (x : ℕ). inserted x v) (after (λ m. placedAfter w m) (a .set)) ∙ sym (set-grown w v);
+        unplaced = ap (λ (x : ℕ). removed x v) (after (λ m. freeAfter n w m) (a .unplaced)) ∙ sym (free-grown w v n);
       })
     where
       w : List ℕ
       w = a .walk
+
+      grown : ℕ
+      grown = grownBy rows free v
 
       o : IsOrdering n w (length w)
       o = subst (λ (m : ℕ). IsOrdering n w m) (sym (a .long)) (a .ordering)
@@ -139,10 +150,11 @@ module _ (s : Search) (rows : List ℕ) (small : length rows ≤ 64) where
       after f e = e ∙ ap f (sym (a .long))
 
       -- what is kept, with v placed
-      grown : (put : ℕ → ℕ → ℕ) (start : ℕ) {kept kept′ : List ℕ} → kept′ ≡ spreadBy (put p) (getD rows v 0) n kept → kept ≡ keptAfter put start rows w p
-          → kept′ ≡ keptAfter put start rows (w ++ v ∷ []) (suc (length w))
-      grown put start e k =
-          e ∙ ap₂ (λ (m : ℕ) (ls : List ℕ). spreadBy (put m) (getD rows v 0) n ls) (sym (a .long)) (after (λ m. keptAfter put start rows w m) k)
+      with-v : (put : ℕ → ℕ → ℕ) (start : ℕ) {kept : List ℕ} → kept ≡ keptAfter put start rows w p
+          → spreadBy (put p) grown 64 kept ≡ keptAfter put start rows (w ++ v ∷ []) (suc (length w))
+      with-v put start k =
+          ap₂ (λ (m : ℕ) (ls : List ℕ). spreadBy (put m) grown 64 ls) (sym (a .long)) (after (λ m. keptAfter put start rows w m) k)
+          ∙ ap (λ (f : ℕ). spreadBy (put (length w)) (grownBy rows f v) 64 (keptAfter put start rows w (length w))) (after (λ m. freeAfter n w m) (a .unplaced))
           ∙ sym (kept-grown w v put start rows)
 
       fresh : (v < n) × (T (placed w (length w) v) → ⊥)
@@ -169,7 +181,44 @@ module _ (rows : List ℕ) where
       same : Agree k w (take k w)
       same = agree-sym k (take k w) w (take-agree k w)
 
+  -- the same of words that are those
+  pub along-same : {p p′ set set′ free free′ : ℕ} {labels labels′ smallest smallest′ largest largest′ : List ℕ} → Along rows p labels smallest largest set free → p ≡ p′
+      → labels′ ≡ labels → smallest′ ≡ smallest → largest′ ≡ largest → set′ ≡ set → free′ ≡ free → Along rows p′ labels′ smallest′ largest′ set′ free′
+  along-same {p} {p′} {set} {set′} {free} {free′} {labels} {labels′} {smallest} {smallest′} {largest} {largest′} a e at-labels at-smallest at-largest at-set at-free =
+      subst (λ (m : ℕ). Along rows m labels′ smallest′ largest′ set′ free′) e (record {
+        walk = a .walk;
+        long = a .long;
+        ordering = a .ordering;
+        labelled = at-labels ∙ a .labelled;
+        smallest-after = at-smallest ∙ a .smallest-after;
+        largest-after = at-largest ∙ a .largest-after;
+        set = at-set ∙ a .set;
+        unplaced = at-free ∙ a .unplaced;
+      })
+
+  -- what is kept beside the labels of unplaced vertices agrees with them
   pub along-consistent : length rows ≤ 64 → {columns : List ℕ} → Transposed rows columns → {p set free : ℕ} {labels smallest largest : List ℕ} → Along rows p labels smallest largest set free
-      → Consistent columns labels smallest largest set
-  along-consistent small transpose {p} a =
-      consistent-after rows (a .walk) p small (a .ordering) transpose p (omega arith) (a .labelled) (a .smallest-after) (a .largest-after) (a .set)
+      → (row : ℕ) → ((v : ℕ) → T (member row v) → T (member free v)) → Consistent columns set row labels smallest largest
+  along-consistent small {columns} transpose {p} {set} {free} {labels} {smallest} {largest} a row unplaced =
+      subst (λ (ls : List ℕ). Consistent columns set row ls smallest largest) (sym (a .labelled))
+      (subst (λ (ss : List ℕ). Consistent columns set row (labelsAfter rows (a .walk) p) ss largest) (sym (a .smallest-after))
+      (subst (λ (ls : List ℕ). Consistent columns set row (labelsAfter rows (a .walk) p) (smallestAfter rows (a .walk) p) ls) (sym (a .largest-after))
+      (subst (λ (x : ℕ). Consistent columns x row (labelsAfter rows (a .walk) p) (smallestAfter rows (a .walk) p) (largestAfter rows (a .walk) p)) (sym (a .set))
+      (consistent-after rows (a .walk) p small (a .ordering) transpose p (omega arith) row (λ v t. subst (λ (x : ℕ). T (member x v)) (a .unplaced) (unplaced v t))))))
+
+  -- every unplaced vertex stands in a tie-break
+  pub along-named : length rows ≤ 64 → (t : List ℕ) → IsFullOrdering (length rows) t → {p set free : ℕ} {labels smallest largest : List ℕ} → Along rows p labels smallest largest set free
+      → Named t free
+  along-named small t names {p} a v f =
+      let vertex = free-vertex rows (a .walk) small p v (subst (λ (x : ℕ). T (member x v)) (a .unplaced) f) in
+      let x = placed-out t (length rows) v (all-placed (length rows) (names .ordering) v vertex) in
+      record { place = x .0; inside = omega (arith, x .1, names .full); there = x .2 }
+
+  pub names-below : length rows ≤ 64 → (t : List ℕ) → IsFullOrdering (length rows) t → (q : ℕ) → q < length t → at t q < 64
+  names-below small t names q l = omega (arith, names .ordering .vertices q (omega (arith, names .full)))
+
+  -- the ranks of a tie-break
+  pub names-ranked : length rows ≤ 64 → (t : List ℕ) → IsFullOrdering (length rows) t → {ranks : List ℕ} → ranks ≡ ranksBelow t (length t) → Ranked t ranks
+  names-ranked small t names e =
+      subst (λ (rs : List ℕ). Ranked t rs) (sym e)
+      (ranked t (λ q l. names-below small t names q l) (λ p q l h. names .ordering .distinct p q l (omega (arith, names .full))))

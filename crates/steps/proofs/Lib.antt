@@ -5,6 +5,7 @@ pub mod Tallying
 pub mod Tracking
 pub mod Growing
 pub mod Replaying
+pub mod Placing
 pub mod Completing
 pub mod Searching
 pub mod Tail

@@ -1,97 +1,141 @@
 -- The replay of an ordering on words: its invariant, and how it goes on and ends.
---   Replaying s rows w k labels smallest largest placed free reached j    j vertices are placed, none of which was beaten
---   replay-consistent                             what is kept beside the labels then agrees with them
+--   Replaying s rows w k labels smallest largest weights stage j    j vertices are placed, none of which was beaten
+--   replay-placeable                              the next vertex can be placed
+--   asked                                         what the code asks of it
 --   replay-start, replay-next, replay-stop, replay-end
 -- Assumes nothing.
 use mathlib.Core.Path.{_≡_, refl, sym, ap, ap₂, _∙_, subst}
+use mathlib.Core.Bool.{Bool, not, _&&_}
 use mathlib.Core.Logic.{_⊎_, inl, inr}
 use mathlib.Core.List.{List}
-use Prim.Native.Nat.{ℕ, _+_, _≤_, _<_}
+use Prim.Native.Nat.{ℕ, suc, _+_, _≤_, _<_, _^_}
 use native.Mathlib.Omega.{arith}
 use native.Mathlib.Numerals.{add-one}
-use lib.Dec.{T}
-use lib.ListN.{length, getD}
+use lib.Dec.{T, not-T}
+use lib.ListN.{length, getD, getD-replicate}
 use Rattle.bitset.specs.Below.{firstBelow}
-use Rattle.bitset.specs.Word.{inserted, removed, united, common, fullBelow}
-use Rattle.bitset.proofs.Tests.{below-suc}
+use Rattle.bitset.specs.Word.{member, inserted, removed, fullBelow}
+use Rattle.bitset.proofs.Tests.{and-out, is-true, below-suc}
 use Rattle.bitset.proofs.Below.{first-unique}
+use Rattle.bitset.proofs.Word as word
 use Rattle.searches.specs.Kind.{Search}
-use Rattle.searches.specs.Ordering.{at}
-use Rattle.labels.specs.Words.{Consistent, labelWith, smallestWith, largestWith, spreadBy, spreadTo, smallestTo, largestTo, beatenIn}
-use Rattle.labels.proofs.Reached.{beaten-reached}
-use Rattle.steps.specs.Steps.{keptAfter, labelsAfter, smallestAfter, largestAfter, freeAfter, reachedAfter, placedAfter, stopsAt, Replayable}
-use Rattle.steps.proofs.Representation.{reached-covers}
+use Rattle.searches.specs.Ordering.{at, placed, IsOrdering}
+use Rattle.searches.proofs.Ordering.{ordering-unplaced}
+use Rattle.labels.specs.Weights.{Consistent}
+use Rattle.labels.specs.Words.{labelWith, smallestWith, largestWith, spreadBy, spreadTo, smallestTo, largestTo, beatenIn, openIn}
+use Rattle.labels.proofs.Weights.{weighed-none}
+use Rattle.labels.proofs.Narrowing.{all-offered}
+use Rattle.steps.specs.Steps.{grownBy, keptAfter, labelsAfter, smallestAfter, largestAfter, freeAfter, placedAfter, stopsAt, Staged, Placeable, Replayable}
+use Rattle.steps.specs.declared.place.Stage.{Stage}
+use Rattle.steps.proofs.Representation.{free-unplaced}
 use Rattle.steps.proofs.Tracking.{consistent-after}
 
+-- whose label grows is unplaced once v is placed
+pub grown-free : (rows : List ℕ) (free v u : ℕ) → T (member (grownBy rows free v) u) → T (member (removed free v) u)
+unfolding grownBy
+grown-free rows free v u t = and-out (member (getD rows v 0) u) (member (removed free v) u) (subst (λ (b : Bool). T b) (word.member-common (getD rows v 0) (removed free v) u) t) .1
+
 module _ (s : Search) (rows w : List ℕ) (k : ℕ) where
-  pub record Replaying (labels smallest largest : List ℕ) (placed free reached j : ℕ) : Type 0 where
+  pub record Replaying (labels smallest largest weights : List ℕ) (stage : Stage) (j : ℕ) : Type 0 where
     pub upto : j ≤ k
     pub labelled : labels ≡ labelsAfter rows w j
     pub smallest-after : smallest ≡ smallestAfter rows w j
     pub largest-after : largest ≡ largestAfter rows w j
-    pub set : placed ≡ placedAfter w j
-    pub unplaced : free ≡ freeAfter (length rows) w j
-    pub met : reached ≡ reachedAfter rows w j
+    pub set : stage .set ≡ placedAfter w j
+    pub unplaced : stage .free ≡ freeAfter (length rows) w j
+    pub staged : Staged s labels weights stage
     pub unbeaten : (i : ℕ) → i < j → T (stopsAt s rows w i) → ⊥
 
-  pub replay-start : {columns labels smallest largest : List ℕ} {free : ℕ} → Replayable rows columns w k labels smallest largest → free ≡ fullBelow (length rows)
-      → Replaying labels smallest largest 0 free 0 0
-  unfolding keptAfter placedAfter freeAfter reachedAfter
-  replay-start r e = record {
-    upto = omega arith;
-    labelled = r .empty;
-    smallest-after = r .no-smallest;
-    largest-after = r .no-largest;
-    set = refl;
-    unplaced = e;
-    met = refl;
-    unbeaten = λ i l. absurd (omega arith);
-  }
+  module _ {columns labels₀ smallest₀ largest₀ weights₀ : List ℕ} (x : Replayable rows columns w k labels₀ smallest₀ largest₀ weights₀) where
+    ordering : IsOrdering (length rows) w k
+    ordering = record { long = x .long; vertices = x .vertices; distinct = x .distinct }
 
-  pub replay-consistent : {columns labels₀ smallest₀ largest₀ labels smallest largest : List ℕ} {placed free reached j : ℕ} → Replayable rows columns w k labels₀ smallest₀ largest₀
-      → Replaying labels smallest largest placed free reached j → Consistent columns labels smallest largest placed
-  replay-consistent {j = j} x r =
-      consistent-after rows w k (x .small) (record { long = x .long; vertices = x .vertices; distinct = x .distinct }) (x .transpose) j (r .upto) (r .labelled) (r .smallest-after)
-      (r .largest-after) (r .set)
+    pub replay-start : {all : ℕ} → all ≡ fullBelow (length rows) → Replaying labels₀ smallest₀ largest₀ weights₀ (record { set = 0; free = all; reached = 0; offered = all }) 0
+    unfolding keptAfter placedAfter freeAfter
+    replay-start {all} e = record {
+      upto = omega arith;
+      labelled = x .empty;
+      smallest-after = x .no-smallest;
+      largest-after = x .no-largest;
+      set = refl;
+      unplaced = e;
+      staged = record {
+        weighed = weighed-none s (x .empty) (x .no-weight);
+        offers = all-offered s labels₀ all (subst (λ (y : ℕ). y < 2 ^ 64) (sym e) (word.fullBelow-word (length rows))) (λ v l _. none v l);
+        covers = λ v l _. none v l;
+        reaches = λ v l f t. absurd (word.empty-back refl v t);
+      };
+      unbeaten = λ i l. absurd (omega arith);
+    }
+      where
+        none : (v : ℕ) → v < 64 → getD labels₀ v 0 ≡ 0
+        none v l = ap (λ (ls : List ℕ). getD ls v 0) (x .empty) ∙ getD-replicate 64 v 0 0 l
 
-  -- what the code asks of the vertex b at position j
-  pub asked : {labels smallest largest : List ℕ} {placed free reached j b front : ℕ} → Replaying labels smallest largest placed free reached j → b ≡ at w j → front ≡ common free reached
-      → beatenIn s labels front (getD labels b 0) ≡ stopsAt s rows w j
-  unfolding stopsAt
-  asked {labels} {free = free} {reached = reached} {j = j} {b = b} r h e =
-      beaten-reached s labels reached (reached-covers rows w j (r .labelled) (r .met)) free (getD labels b 0) e
-      ∙ ap (λ (v : ℕ). beatenIn s labels free (getD labels v 0)) h
-      ∙ ap₂ (λ (ls : List ℕ) (f : ℕ). beatenIn s ls f (getD ls (at w j) 0)) (r .labelled) (r .unplaced)
+    module _ {labels smallest largest weights : List ℕ} {stage : Stage} {j : ℕ} (r : Replaying labels smallest largest weights stage j) (l : j < k) {b : ℕ} (h : b ≡ at w j) where
+      -- the vertex whose turn it is is unplaced
+      turn-free : T (member (stage .free) b)
+      turn-free =
+          subst (λ (f : ℕ). T (member f b)) (sym (r .unplaced))
+          (subst (λ (v : ℕ). T (member (freeAfter (length rows) w j) v)) (sym h)
+          (subst (λ (t : Bool). T t) (sym (free-unplaced rows w (x .small) j (at w j) (x .vertices j l))) (not-T (placed w j (at w j)) (ordering-unplaced (length rows) ordering j l))))
 
-  pub replay-next : {labels smallest largest : List ℕ} {placed free reached j b : ℕ} (labels′ smallest′ largest′ : List ℕ) (placed′ free′ reached′ : ℕ)
-      → Replaying labels smallest largest placed free reached j → j < k → b ≡ at w j → (T (stopsAt s rows w j) → ⊥)
-      → labels′ ≡ spreadTo (getD rows b 0) j (length rows) labels → smallest′ ≡ smallestTo (getD rows b 0) j (length rows) smallest
-      → largest′ ≡ largestTo (getD rows b 0) j (length rows) largest → placed′ ≡ inserted placed b → free′ ≡ removed free b
-      → reached′ ≡ united reached (getD rows b 0) → Replaying labels′ smallest′ largest′ placed′ free′ reached′ (j + 1)
-  unfolding keptAfter placedAfter freeAfter reachedAfter
-  replay-next {labels} {smallest} {largest} {placed} {free} {reached} {j} {b} labels′ smallest′ largest′ placed′ free′ reached′ r l h go-on e e-smallest e-largest i f g =
-      subst (λ (m : ℕ). Replaying labels′ smallest′ largest′ placed′ free′ reached′ m) (sym (add-one j)) (record {
-        upto = l;
-        labelled = grown (labelWith j) e (r .labelled);
-        smallest-after = grown (smallestWith j) e-smallest (r .smallest-after);
-        largest-after = grown (largestWith j) e-largest (r .largest-after);
-        set = i ∙ ap₂ (λ (x v : ℕ). inserted x v) (r .set) h;
-        unplaced = f ∙ ap₂ (λ (x v : ℕ). removed x v) (r .unplaced) h;
-        met = g ∙ ap₂ (λ (x v : ℕ). united x (getD rows v 0)) (r .met) h;
-        unbeaten = λ i h. before i (below-suc j i h);
-      })
-    where
-      -- what is kept, with b placed
-      grown : (put : ℕ → ℕ) {kept kept′ after : List ℕ} → kept′ ≡ spreadBy put (getD rows b 0) (length rows) kept → kept ≡ after
-          → kept′ ≡ spreadBy put (getD rows (at w j) 0) (length rows) after
-      grown put step now = step ∙ ap₂ (λ (v : ℕ) (ls : List ℕ). spreadBy put (getD rows v 0) (length rows) ls) h now
+      -- what the code asks of it
+      pub asked : {a : Bool} → a ≡ openIn s labels (stage .free) b → a ≡ not (stopsAt s rows w j)
+      unfolding stopsAt openIn
+      asked e =
+          e ∙ ap (λ (t : Bool). t && not (beatenIn s labels (stage .free) (getD labels b 0))) (is-true (member (stage .free) b) turn-free)
+          ∙ ap (λ (v : ℕ). not (beatenIn s labels (stage .free) (getD labels v 0))) h
+          ∙ ap₂ (λ (ls : List ℕ) (f : ℕ). not (beatenIn s ls f (getD ls (at w j) 0))) (r .labelled) (r .unplaced)
 
-      before : (i : ℕ) → (i < j) ⊎ (i ≡ j) → T (stopsAt s rows w i) → ⊥
-      before i (inl h) t = r .unbeaten i h t
-      before i (inr same) t = go-on (subst (λ (x : ℕ). T (stopsAt s rows w x)) same t)
+      pub replay-placeable : Placeable s rows columns labels smallest largest weights stage b j
+      unfolding keptAfter placedAfter freeAfter
+      replay-placeable = record { bit = omega (arith, x .fits, x .small); staged = r .staged; consistent = agrees }
+        where
+          -- what is kept beside the labels once v is placed, of any words
+          Next : ℕ → ℕ → ℕ → List ℕ → List ℕ → List ℕ → Type 0
+          Next set free v ls ss gs =
+              Consistent columns (inserted set v) (grownBy rows free v) (spreadTo (grownBy rows free v) j ls) (smallestTo (grownBy rows free v) j ss) (largestTo (grownBy rows free v) j gs)
 
-  pub replay-stop : {labels smallest largest : List ℕ} {placed free reached j : ℕ} → Replaying labels smallest largest placed free reached j → j < k → T (stopsAt s rows w j) → j ≡ firstBelow k (stopsAt s rows w)
+          agrees : Next (stage .set) (stage .free) b labels smallest largest
+          agrees =
+              subst (λ (v : ℕ). Next (stage .set) (stage .free) v labels smallest largest) (sym h)
+              (subst (λ (y : ℕ). Next y (stage .free) (at w j) labels smallest largest) (sym (r .set))
+              (subst (λ (y : ℕ). Next (placedAfter w j) y (at w j) labels smallest largest) (sym (r .unplaced))
+              (subst (λ (ls : List ℕ). Next (placedAfter w j) (freeAfter (length rows) w j) (at w j) ls smallest largest) (sym (r .labelled))
+              (subst (λ (ss : List ℕ). Next (placedAfter w j) (freeAfter (length rows) w j) (at w j) (labelsAfter rows w j) ss largest) (sym (r .smallest-after))
+              (subst (λ (gs : List ℕ). Next (placedAfter w j) (freeAfter (length rows) w j) (at w j) (labelsAfter rows w j) (smallestAfter rows w j) gs) (sym (r .largest-after))
+              (consistent-after rows w k (x .small) ordering (x .transpose) (suc j) l (grownBy rows (freeAfter (length rows) w j) (at w j)) (grown-free rows (freeAfter (length rows) w j) (at w j))))))))
+
+      pub replay-next : (labels′ smallest′ largest′ : List ℕ) {weights′ : List ℕ} (stage′ : Stage) → (T (stopsAt s rows w j) → ⊥)
+          → labels′ ≡ spreadTo (grownBy rows (stage .free) b) j labels → smallest′ ≡ smallestTo (grownBy rows (stage .free) b) j smallest
+          → largest′ ≡ largestTo (grownBy rows (stage .free) b) j largest → stage′ .set ≡ inserted (stage .set) b → stage′ .free ≡ removed (stage .free) b
+          → Staged s labels′ weights′ stage′ → Replaying labels′ smallest′ largest′ weights′ stage′ (j + 1)
+      unfolding keptAfter placedAfter freeAfter
+      replay-next labels′ smallest′ largest′ {weights′} stage′ go-on e e-smallest e-largest i f staged =
+          subst (λ (m : ℕ). Replaying labels′ smallest′ largest′ weights′ stage′ m) (sym (add-one j)) (record {
+            upto = l;
+            labelled = grown (labelWith j) e (r .labelled);
+            smallest-after = grown (smallestWith j) e-smallest (r .smallest-after);
+            largest-after = grown (largestWith j) e-largest (r .largest-after);
+            set = i ∙ ap₂ (λ (y v : ℕ). inserted y v) (r .set) h;
+            unplaced = f ∙ ap₂ (λ (y v : ℕ). removed y v) (r .unplaced) h;
+            staged = staged;
+            unbeaten = λ i h. before i (below-suc j i h);
+          })
+        where
+          -- what is kept, with b placed
+          grown : (put : ℕ → ℕ) {kept kept′ after : List ℕ} → kept′ ≡ spreadBy put (grownBy rows (stage .free) b) 64 kept → kept ≡ after
+              → kept′ ≡ spreadBy put (grownBy rows (freeAfter (length rows) w j) (at w j)) 64 after
+          grown put step now =
+              step ∙ ap₂ (λ (row : ℕ) (ls : List ℕ). spreadBy put row 64 ls) (ap₂ (λ (y v : ℕ). grownBy rows y v) (r .unplaced) h) now
+
+          before : (i : ℕ) → (i < j) ⊎ (i ≡ j) → T (stopsAt s rows w i) → ⊥
+          before i (inl h) t = r .unbeaten i h t
+          before i (inr same) t = go-on (subst (λ (y : ℕ). T (stopsAt s rows w y)) same t)
+
+  pub replay-stop : {labels smallest largest weights : List ℕ} {stage : Stage} {j : ℕ} → Replaying labels smallest largest weights stage j → j < k → T (stopsAt s rows w j)
+      → j ≡ firstBelow k (stopsAt s rows w)
   replay-stop r l t = first-unique (record { within = r .upto; holds = λ _. t; least = r .unbeaten })
 
-  pub replay-end : {labels smallest largest : List ℕ} {placed free reached j : ℕ} → Replaying labels smallest largest placed free reached j → k ≤ j → j ≡ firstBelow k (stopsAt s rows w)
+  pub replay-end : {labels smallest largest weights : List ℕ} {stage : Stage} {j : ℕ} → Replaying labels smallest largest weights stage j → k ≤ j → j ≡ firstBelow k (stopsAt s rows w)
   replay-end r l = first-unique (record { within = r .upto; holds = λ h. absurd (omega arith); least = r .unbeaten })

@@ -1,26 +1,24 @@
 -- The words hold the labels and the unplaced vertices of searches/, and what is computed on them is what is defined there.
---   suc-split                                the positions below one more
 --   cut-same, cut-below                      a set that ends at a bound;   meets-cut, outranks-cut, compared-cut   it is compared below it
---   kept-length                              keptAfter: 64 values;   kept-start, kept-next, kept-beyond   vertex by vertex
---   member-joined                            what is in a label that a position may join
---   label-members                            labelsAfter: words which hold the labels
 --   free-word, free-members                  freeAfter: a word, which holds the unplaced vertices;   free-unplaced, free-vertex
---   after-covers, reached-covers             reachedAfter: nobody else has a position in its label
+--   free-earlier, grown-member               who is unplaced later, and whose label grows
+--   kept-length                              keptAfter: 64 values;   kept-start, kept-next   of an unplaced vertex
+--   label-members                            labelsAfter: words which hold the labels of the unplaced vertices
 --   ahead-same, compared-same                who is ahead, and how two stand to each other;   beaten-same, open-offered   who is beaten, who is offered
 -- Assumes nothing.
 use mathlib.Core.Path.{_≡_, refl, sym, ap, ap₂, _∙_, subst}
 use mathlib.Core.Bool.{Bool, true, false, cond, not, _&&_, _||_}
-use mathlib.Core.Logic.{_⊎_, inl, inr}
 use mathlib.Core.List.{List}
 use Prim.Native.Nat.{ℕ, zero, suc, _^_, _≤_, _<_}
 use native.Mathlib.Omega.{arith}
-use lib.Dec.{T, ltb, eqb, ltb→lt, lt→ltb, eqb→eq, eqb-refl, leb·suc-zero}
+use lib.Dec.{T, ltb, eqb, ltb→lt, lt→ltb, leb·suc-zero}
 use lib.ListN.{length, getD, length-replicate, getD-replicate}
 use Rattle.bitset.specs.Below.{anyBelow}
-use Rattle.bitset.specs.Word.{member, inserted}
-use Rattle.bitset.proofs.Tests.{and-same, and-in, and-out, and-true, or-inl, or-inr, or-out, same-test, is-true, below-suc}
+use Rattle.bitset.specs.Word.{member, removed}
+use Rattle.bitset.proofs.Tests.{and-same, and-out, and-true, same-test, is-true}
 use Rattle.bitset.proofs.Below.{any-fewer}
 use Rattle.bitset.proofs.Count.{count-fewer}
+use Rattle.bitset.proofs.Scan.{removed-in}
 use Rattle.bitset.proofs.Word as word
 use Rattle.searches.specs.Kind.{Search, mns}
 use Rattle.searches.specs.Ordering.{arcs, at, placed, IsOrdering}
@@ -32,34 +30,10 @@ use Rattle.searches.proofs.Reason.{Reason, meets-in, meets-out, outranks→reas
 use Rattle.searches.proofs.Ordering.{ordering-fits}
 use Rattle.searches.proofs.Level.{alike-in, alike-out, except-mns}
 use Rattle.searches.proofs.Comparing.{compared-mns, compared-ranked}
-use Rattle.labels.specs.Words.{aheadIn, comparedIn, labelWith, changedBy, joinedIn, beatenIn, openIn, Covers}
-use Rattle.labels.proofs.Spreading.{spread-above, spread-length, spread-at}
-use Rattle.labels.proofs.Reached.{covers-spread}
-use Rattle.steps.specs.Steps.{keptAfter, labelsAfter, freeAfter, reachedAfter}
-
--- ---- laws of tests
-
--- the positions below j + 1 of a set are j, if it is one, and those below j
-pub suc-split : (j p : ℕ) (f : ℕ → Bool) → ((eqb j p && f j) || (ltb p j && f p)) ≡ (ltb p (suc j) && f p)
-suc-split j p f = same-test ((eqb j p && f j) || (ltb p j && f p)) (ltb p (suc j) && f p) (λ t. forth (or-out (eqb j p && f j) (ltb p j && f p) t)) back
-  where
-    forth : T (eqb j p && f j) ⊎ T (ltb p j && f p) → T (ltb p (suc j) && f p)
-    forth (inl t) =
-        let both = and-out (eqb j p) (f j) t in
-        let e = eqb→eq j p (both .0) in
-        and-in (ltb p (suc j)) (f p) (lt→ltb p (suc j) (omega arith)) (subst (λ (q : ℕ). T (f q)) e (both .1))
-    forth (inr t) =
-        let both = and-out (ltb p j) (f p) t in
-        and-in (ltb p (suc j)) (f p) (lt→ltb p (suc j) (omega (arith, ltb→lt p j (both .0)))) (both .1)
-
-    back : T (ltb p (suc j) && f p) → T ((eqb j p && f j) || (ltb p j && f p))
-    back t = let both = and-out (ltb p (suc j)) (f p) t in go (below-suc j p (ltb→lt p (suc j) (both .0))) (both .1)
-      where
-        go : (p < j) ⊎ (p ≡ j) → T (f p) → T ((eqb j p && f j) || (ltb p j && f p))
-        go (inl l) x = or-inr (eqb j p && f j) (ltb p j && f p) (and-in (ltb p j) (f p) (lt→ltb p j l) x)
-        go (inr e) x =
-            or-inl (eqb j p && f j) (ltb p j && f p)
-            (and-in (eqb j p) (f j) (subst (λ (q : ℕ). T (eqb j q)) (sym e) (eqb-refl j)) (subst (λ (q : ℕ). T (f q)) e x))
+use Rattle.labels.specs.Words.{aheadIn, comparedIn, labelWith, changedBy, beatenIn, openIn}
+use Rattle.labels.proofs.Joining.{suc-split, member-joined}
+use Rattle.labels.proofs.Spreading.{spread-length, spread-at}
+use Rattle.steps.specs.Steps.{keptAfter, labelsAfter, freeAfter, grownBy}
 
 -- ---- sets that end at a bound
 
@@ -139,42 +113,7 @@ module _ (j m : ℕ) (c b c′ b′ : ℕ → Bool) (l : j ≤ m) (c-cut : (p : 
       behind : (x : Search) → outranks x m b c ≡ outranks x j b′ c′
       behind = outranks-cut j m b c b′ c′ l b-cut c-cut
 
--- ---- what is kept, vertex by vertex
-
-module _ (put : ℕ → ℕ → ℕ) (start : ℕ) (rows w : List ℕ) where
-  pub kept-length : (j : ℕ) → length (keptAfter put start rows w j) ≡ 64
-  unfolding keptAfter
-  kept-length zero = length-replicate {A = ℕ} 64 start
-  kept-length (suc j) = spread-length (put j) (getD rows (at w j) 0) (keptAfter put start rows w j) (length rows) ∙ kept-length j
-
-  pub kept-start : (v : ℕ) → v < 64 → getD (keptAfter put start rows w 0) v 0 ≡ start
-  unfolding keptAfter
-  kept-start v l = getD-replicate 64 v start 0 l
-
-  pub kept-next : length rows ≤ 64 → (j v : ℕ) → v < length rows
-      → getD (keptAfter put start rows w (suc j)) v 0 ≡ changedBy (put j) (getD rows (at w j) 0) v (getD (keptAfter put start rows w j) v 0)
-  unfolding keptAfter
-  kept-next small j v l = spread-at (put j) (getD rows (at w j) 0) (keptAfter put start rows w j) (length rows) v (omega (arith, kept-length j)) l
-
-  pub kept-beyond : (j v : ℕ) → v < 64 → length rows ≤ v → getD (keptAfter put start rows w j) v 0 ≡ start
-  unfolding keptAfter
-  kept-beyond zero v l h = getD-replicate 64 v start 0 l
-  kept-beyond (suc j) v l h = spread-above (put j) (getD rows (at w j) 0) (keptAfter put start rows w j) (length rows) v h ∙ kept-beyond j v l h
-
--- ---- the labels, and the unplaced vertices
-
--- what is in a label after position q was put in where v is in the row
-pub member-joined : (row q v x : ℕ) → q < 64 → (p : ℕ) → member (joinedIn row q v x) p ≡ ((eqb q p && member row v) || member x p)
-unfolding changedBy
-member-joined row q v x l p = go (member row v)
-  where
-    out : (b : Bool) → false ≡ (b && false)
-    out true = refl
-    out false = refl
-
-    go : (b : Bool) → member (cond b (inserted x q) x) p ≡ ((eqb q p && b) || member x p)
-    go true = word.member-inserted x l p ∙ ap (λ (b : Bool). b || member x p) (and-true (eqb q p))
-    go false = ap (λ (b : Bool). b || member x p) (out (eqb q p))
+-- ---- the unplaced vertices
 
 module _ (rows w : List ℕ) where
   pub free-word : (j : ℕ) → freeAfter (length rows) w j < 2 ^ 64
@@ -201,32 +140,57 @@ module _ (rows w : List ℕ) where
     pub free-vertex : (j v : ℕ) → T (member (freeAfter (length rows) w j) v) → v < length rows
     free-vertex j = cut-below (length rows) (member (freeAfter (length rows) w j)) (λ u. not (placed w j u)) (free-members j)
 
+-- ---- what is kept, vertex by vertex
+
+module _ (rows w : List ℕ) where
+  -- who is unplaced later is unplaced now, and of those the next vertex makes the labels grow that it leads to
+  pub free-earlier : (j v : ℕ) → T (member (freeAfter (length rows) w (suc j)) v) → T (member (freeAfter (length rows) w j) v)
+  unfolding freeAfter
+  free-earlier j v t = removed-in (freeAfter (length rows) w j) (at w j) v t .1
+
+  pub grown-member : (j v : ℕ) → T (member (freeAfter (length rows) w (suc j)) v) → member (grownBy rows (freeAfter (length rows) w j) (at w j)) v ≡ member (getD rows (at w j) 0) v
+  unfolding freeAfter grownBy
+  grown-member j v t =
+      let free = removed (freeAfter (length rows) w j) (at w j) in
+      word.member-common (getD rows (at w j) 0) free v ∙ ap (λ (b : Bool). member (getD rows (at w j) 0) v && b) (is-true (member free v) t) ∙ sym (and-true (member (getD rows (at w j) 0) v))
+
+module _ (put : ℕ → ℕ → ℕ) (start : ℕ) (rows w : List ℕ) where
+  pub kept-length : (j : ℕ) → length (keptAfter put start rows w j) ≡ 64
+  unfolding keptAfter
+  kept-length zero = length-replicate {A = ℕ} 64 start
+  kept-length (suc j) = spread-length (put j) (grownBy rows (freeAfter (length rows) w j) (at w j)) (keptAfter put start rows w j) 64 ∙ kept-length j
+
+  pub kept-start : (v : ℕ) → v < 64 → getD (keptAfter put start rows w 0) v 0 ≡ start
+  unfolding keptAfter
+  kept-start v l = getD-replicate 64 v start 0 l
+
+  -- of an unplaced vertex
+  pub kept-next : (j v : ℕ) → v < 64 → T (member (freeAfter (length rows) w (suc j)) v)
+      → getD (keptAfter put start rows w (suc j)) v 0 ≡ changedBy (put j) (getD rows (at w j) 0) v (getD (keptAfter put start rows w j) v 0)
+  unfolding keptAfter changedBy
+  kept-next j v l f =
+      let old = getD (keptAfter put start rows w j) v 0 in
+      spread-at (put j) (grownBy rows (freeAfter (length rows) w j) (at w j)) (keptAfter put start rows w j) 64 v (omega (arith, kept-length j)) l
+      ∙ ap (λ (b : Bool). cond b (put j old) old) (grown-member rows w j v f)
+
+-- ---- the labels
+
 module _ (rows w : List ℕ) (k : ℕ) (small : length rows ≤ 64) (o : IsOrdering (length rows) w k) where
-  pub label-members : (j : ℕ) → j ≤ k → (v : ℕ) → v < length rows → (p : ℕ)
+  -- of an unplaced vertex
+  pub label-members : (j : ℕ) → j ≤ k → (v : ℕ) → T (member (freeAfter (length rows) w j) v) → (p : ℕ)
       → member (getD (labelsAfter rows w j) v 0) p ≡ (ltb p j && label (arcs rows) w v p)
   unfolding label arcs
-  label-members zero h v l p =
+  label-members zero h v f p =
+      let l = free-vertex rows w small 0 v f in
       ap (λ (x : ℕ). member x p) (kept-start labelWith 0 rows w v (omega arith)) ∙ word.member-zero p
       ∙ ap (λ (b : Bool). b && label (arcs rows) w v p) (sym (leb·suc-zero p))
-  label-members (suc j) h v l p =
+  label-members (suc j) h v f p =
       let row = getD rows (at w j) 0 in
       let labels = labelsAfter rows w j in
-      ap (λ (x : ℕ). member x p) (kept-next labelWith 0 rows w small j v l)
+      let l = free-vertex rows w small (suc j) v f in
+      ap (λ (x : ℕ). member x p) (kept-next labelWith 0 rows w j v (omega arith) f)
       ∙ member-joined row j v (getD labels v 0) (omega (arith, ordering-fits (length rows) o)) p
-      ∙ ap (λ (b : Bool). (eqb j p && member row v) || b) (label-members j (omega arith) v l p) ∙ suc-split j p (label (arcs rows) w v)
-
-pub after-covers : (rows w : List ℕ) (j : ℕ) → Covers (reachedAfter rows w j) (labelsAfter rows w j)
-unfolding reachedAfter keptAfter
-after-covers rows w zero = λ v l out. getD-replicate 64 v 0 0 l
-after-covers rows w (suc j) =
-    covers-spread (labelsAfter rows w j) (reachedAfter rows w j) (getD rows (at w j) 0) j (length rows) (after-covers rows w j) refl refl
-
--- the same of words that are those
-pub reached-covers : (rows w : List ℕ) (j : ℕ) {labels : List ℕ} {reached : ℕ} → labels ≡ labelsAfter rows w j → reached ≡ reachedAfter rows w j
-    → Covers reached labels
-reached-covers rows w j {labels} {reached} at-labels at-reached =
-    subst (λ (x : ℕ). Covers x labels) (sym at-reached)
-    (subst (λ (ls : List ℕ). Covers (reachedAfter rows w j) ls) (sym at-labels) (after-covers rows w j))
+      ∙ ap (λ (b : Bool). (eqb j p && member row v) || b) (label-members j (omega arith) v (free-earlier rows w j v f) p) ∙ suc-split j p (label (arcs rows) w v)
 
 -- ---- who is ahead, beaten, offered
 
@@ -244,33 +208,33 @@ module _ (s : Search) (rows w : List ℕ) (k : ℕ) (small : length rows ≤ 64)
   abbrev free : ℕ → ℕ
   free = freeAfter (length rows) w
 
-  pub ahead-same : (j u v : ℕ) → j ≤ k → u < n → v < n
+  pub ahead-same : (j u v : ℕ) → j ≤ k → T (member (free j) u) → T (member (free j) v)
       → aheadIn s (getD (labels j) u 0) (getD (labels j) v 0) ≡ outranks s j (label arc w u) (label arc w v)
   unfolding aheadIn
   ahead-same j u v h a b =
       outranks-cut j 64 (member (getD (labels j) u 0)) (member (getD (labels j) v 0)) (label arc w u) (label arc w v)
       (omega (arith, ordering-fits n o)) (label-members rows w k small o j h u a) (label-members rows w k small o j h v b) s
 
-  pub compared-same : (j u v : ℕ) → j ≤ k → u < n → v < n
+  pub compared-same : (j u v : ℕ) → j ≤ k → T (member (free j) u) → T (member (free j) v)
       → comparedIn s (getD (labels j) u 0) (getD (labels j) v 0) ≡ compared s j (label arc w u) (label arc w v)
   unfolding comparedIn
   compared-same j u v h a b =
       compared-cut j 64 (member (getD (labels j) u 0)) (member (getD (labels j) v 0)) (label arc w u) (label arc w v)
       (omega (arith, ordering-fits n o)) (label-members rows w k small o j h u a) (label-members rows w k small o j h v b) s
 
-  pub beaten-same : (j v : ℕ) → j ≤ k → v < n
+  pub beaten-same : (j v : ℕ) → j ≤ k → T (member (free j) v)
       → beatenIn s (labels j) (free j) (getD (labels j) v 0)
       ≡ anyBelow n (λ u. not (placed w j u) && outranks s j (label arc w u) (label arc w v))
   unfolding beatenIn
   beaten-same j v h l =
       any-fewer n 64 small (λ u. member (free j) u && aheadIn s (getD (labels j) u 0) (getD (labels j) v 0))
       (λ u. not (placed w j u) && outranks s j (label arc w u) (label arc w v))
-      (λ u g. ap₂ (λ (a b : Bool). a && b) (free-unplaced rows w small j u g) (ahead-same j u v h g l))
+      (λ u g. and-same (member (free j) u) _ _ (λ f. ahead-same j u v h f l)
+      ∙ ap (λ (b : Bool). b && outranks s j (label arc w u) (label arc w v)) (free-unplaced rows w small j u g))
       (λ u t. free-vertex rows w small j u (and-out (member (free j) u) (aheadIn s (getD (labels j) u 0) (getD (labels j) v 0)) t .0))
 
   pub open-offered : (j : ℕ) → j ≤ k → (v : ℕ) → openIn s (labels j) (free j) v ≡ offered s arc n w j v
   unfolding openIn offered
   open-offered j h v =
-      ap (λ (b : Bool). b && not (beatenIn s (labels j) (free j) (getD (labels j) v 0))) (free-members rows w small j v)
-      ∙ and-same (ltb v n && not (placed w j v)) _ _
-      (λ t. ap not (beaten-same j v h (ltb→lt v n (and-out (ltb v n) (not (placed w j v)) t .0))))
+      and-same (member (free j) v) _ _ (λ t. ap not (beaten-same j v h t))
+      ∙ ap (λ (b : Bool). b && not (anyBelow n (λ u. not (placed w j u) && outranks s j (label arc w u) (label arc w v)))) (free-members rows w small j v)

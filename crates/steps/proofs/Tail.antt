@@ -7,12 +7,12 @@ use mathlib.Core.List.{List, [], _∷_, _++_, append-nil, append-assoc}
 use Prim.Native.Nat.{ℕ, zero, suc, _+_, _-_, _≤_, _<_}
 use native.Mathlib.Omega.{arith}
 use native.Mathlib.Numerals.{add-one}
-use lib.ListN.{length, getD, take, drop, set, length-set, take-append-drop}
+use lib.ListN.{length, take, drop, set, length-set, take-append-drop}
 use lib.Seq.{take-suc-set, drop-set-lt, drop-drop}
 use Rattle.bitset.specs.Word.{removed}
 use Rattle.searches.specs.Kind.{Search}
 use Rattle.labels.specs.Words.{spreadTo, chosenIn}
-use Rattle.steps.specs.Steps.{fillIn}
+use Rattle.steps.specs.Steps.{grownBy, fillIn}
 
 module _ (s : Search) (rows t : List ℕ) (k m : ℕ) (labels₀ : List ℕ) (free₀ : ℕ) (tail₀ : List ℕ) where
   pub record Filling (tail labels : List ℕ) (free i : ℕ) : Type 0 where
@@ -33,16 +33,16 @@ module _ (s : Search) (rows t : List ℕ) (k m : ℕ) (labels₀ : List ℕ) (fr
   fill-step : (x p : ℕ) (labels : List ℕ) (free : ℕ) → 0 < x
       → fillIn s rows t x p labels free
       ≡ chosenIn s labels free t
-      ∷ fillIn s rows t (x - 1) (p + 1) (spreadTo (getD rows (chosenIn s labels free t) 0) p (length rows) labels) (removed free (chosenIn s labels free t))
+      ∷ fillIn s rows t (x - 1) (p + 1) (spreadTo (grownBy rows free (chosenIn s labels free t)) p labels) (removed free (chosenIn s labels free t))
   unfolding fillIn
   fill-step zero p labels free l = absurd (omega arith)
   fill-step (suc x) p labels free l =
       let v = chosenIn s labels free t in
-      ap₂ (λ (a b : ℕ). v ∷ fillIn s rows t a b (spreadTo (getD rows v 0) p (length rows) labels) (removed free v))
+      ap₂ (λ (a b : ℕ). v ∷ fillIn s rows t a b (spreadTo (grownBy rows free v) p labels) (removed free v))
       (let e : x ≡ suc x - 1 = omega arith in e) (sym (add-one p))
 
   pub filling-next : {tail labels : List ℕ} {free i : ℕ} (v : ℕ) (labels′ : List ℕ) (free′ : ℕ) → Filling tail labels free i → i < m → m ≤ length tail₀
-      → v ≡ chosenIn s labels free t → labels′ ≡ spreadTo (getD rows v 0) (k + i) (length rows) labels → free′ ≡ removed free v
+      → v ≡ chosenIn s labels free t → labels′ ≡ spreadTo (grownBy rows free v) (k + i) labels → free′ ≡ removed free v
       → Filling (set tail i v) labels′ free′ (i + 1)
   filling-next {tail} {labels} {free} {i} v labels′ free′ f l room at-v at-labels at-free = record {
     upto = omega arith;
@@ -56,7 +56,7 @@ module _ (s : Search) (rows t : List ℕ) (k m : ℕ) (labels₀ : List ℕ) (fr
   }
     where
       after : List ℕ
-      after = fillIn s rows t (m - i - 1) (k + i + 1) (spreadTo (getD rows v 0) (k + i) (length rows) labels) (removed free v)
+      after = fillIn s rows t (m - i - 1) (k + i + 1) (spreadTo (grownBy rows free v) (k + i) labels) (removed free v)
 
       front : take (i + 1) (set tail i v) ≡ take i tail ++ (v ∷ [])
       front = ap (λ (x : ℕ). take x (set tail i v)) (add-one i) ∙ take-suc-set tail i v (omega (arith, f .long))
@@ -69,7 +69,7 @@ module _ (s : Search) (rows t : List ℕ) (k m : ℕ) (labels₀ : List ℕ) (fr
       step : fillIn s rows t (m - i) (k + i) labels free ≡ v ∷ after
       step =
           fill-step (m - i) (k + i) labels free (omega arith)
-          ∙ ap (λ (x : ℕ). x ∷ fillIn s rows t (m - i - 1) (k + i + 1) (spreadTo (getD rows x 0) (k + i) (length rows) labels) (removed free x)) (sym at-v)
+          ∙ ap (λ (x : ℕ). x ∷ fillIn s rows t (m - i - 1) (k + i + 1) (spreadTo (grownBy rows free x) (k + i) labels) (removed free x)) (sym at-v)
 
       shift : (ls : List ℕ) → drop (suc i) ls ≡ drop 1 (drop i ls)
       shift ls = ap (λ (x : ℕ). drop x ls) (sym (add-one i)) ∙ sym (drop-drop 1 i ls)

@@ -11,19 +11,21 @@ use mathlib.Core.List.{List}
 use Prim.Native.Nat.{ℕ, zero, suc, _≤_, _<_}
 use native.Mathlib.Omega.{arith}
 use lib.Dec.{T, eqb, eqb→eq}
-use lib.ListN.{length, getD, List·getD-eq-default}
+use lib.ListN.{length, getD}
 use Rattle.bitset.specs.Below.{anyBelow, countBelow}
 use Rattle.bitset.specs.Word.{member, inserted, common}
-use Rattle.bitset.proofs.Tests.{and-in, and-out, and-true, or-inl, or-inr, or-out, same-test, below-or}
+use Rattle.bitset.proofs.Tests.{and-in, and-out, and-true, or-inl, or-inr, or-out, same-test}
 use Rattle.bitset.proofs.Count.{count-same, count-none, count-added}
 use Rattle.bitset.proofs.Word as word
 use Rattle.searches.specs.Ordering.{arcs, at, placed, IsOrdering}
 use Rattle.searches.specs.Label.{label}
 use Rattle.searches.proofs.Ordering.{ordering-unplaced, ordering-fits}
-use Rattle.labels.specs.Words.{tally, Tallied, labelWith, joinedIn}
+use Rattle.labels.specs.Weights.{tally}
+use Rattle.labels.specs.Words.{labelWith, joinedIn}
+use Rattle.labels.proofs.Joining.{member-joined}
 use Rattle.steps.specs.Columns.{Transposed}
-use Rattle.steps.specs.Steps.{labelsAfter, placedAfter}
-use Rattle.steps.proofs.Representation.{cut-below, kept-start, kept-next, kept-beyond, member-joined, label-members}
+use Rattle.steps.specs.Steps.{labelsAfter, freeAfter, placedAfter}
+use Rattle.steps.proofs.Representation.{cut-below, free-vertex, free-earlier, kept-start, kept-next, label-members}
 
 -- ---- one number more
 
@@ -73,11 +75,6 @@ label-more row q v x l out =
     count-same 64 (member (joinedIn row q v x)) (λ p. (eqb q p && member row v) || member x p) (λ p _. member-joined row q v x l p)
     ∙ count-joined 64 q (member x) l out (member row v)
 
--- nothing is counted in an empty row
-none-counted : (row set : ℕ) → row ≡ 0 → countBelow 64 (member (common row set)) ≡ 0
-none-counted row set e =
-    count-none 64 (member (common row set)) (λ p _ t. word.empty-back e p (and-out (member row p) (member set p) (subst (λ (x : Bool). T x) (word.member-common row set p) t) .0))
-
 -- ---- along an ordering
 
 module _ (rows w : List ℕ) (k : ℕ) (small : length rows ≤ 64) (o : IsOrdering (length rows) w k) where
@@ -89,36 +86,29 @@ module _ (rows w : List ℕ) (k : ℕ) (small : length rows ≤ 64) (o : IsOrder
       ∙ ap (λ (b : Bool). eqb (at w j) v || b) (placed-members j (omega arith) v)
 
   module _ (columns : List ℕ) (transpose : Transposed rows columns) where
-    pub tallied-after : (j : ℕ) → j ≤ k → Tallied columns (labelsAfter rows w j) (placedAfter w j)
+    -- of an unplaced vertex
+    pub tallied-after : (j : ℕ) → j ≤ k → (v : ℕ) → T (member (freeAfter (length rows) w j) v)
+        → tally columns (placedAfter w j) v ≡ countBelow 64 (member (getD (labelsAfter rows w j) v 0))
     unfolding placedAfter tally arcs
-    tallied-after zero h v l =
+    tallied-after zero h v f =
+        let l = free-vertex rows w small 0 v f in
         count-none 64 (member (common (getD columns v 0) 0)) (λ p _ t. word.empty-back refl p (and-out (member (getD columns v 0) p) (member 0 p) (subst (λ (x : Bool). T x) (word.member-common (getD columns v 0) 0 p) t) .1))
-        ∙ sym (count-none 64 (member (getD (labelsAfter rows w 0) v 0)) (λ p _. word.empty-back (kept-start labelWith 0 rows w v l) p))
-    tallied-after (suc j) h v l = go (tallied-after j (omega arith) v l) (below-or v (length rows))
-      where
-        u : ℕ
-        u = at w j
-
-        labels : List ℕ
-        labels = labelsAfter rows w j
-
-        fresh : T (member (placedAfter w j) u) → ⊥
-        fresh t = ordering-unplaced (length rows) o j h (subst (λ (x : Bool). T x) (placed-members j (omega arith) u) t)
-
-        -- position j is in no label yet
-        unused : v < length rows → T (member (getD labels v 0) j) → ⊥
-        unused vertex t = omega (arith, cut-below j (member (getD labels v 0)) (label (arcs rows) w v) (label-members rows w k small o j (omega arith) v vertex) j t)
-
-        go : tally columns (placedAfter w j) v ≡ countBelow 64 (member (getD labels v 0)) → (v < length rows) ⊎ (length rows ≤ v)
-            → tally columns (placedAfter w (suc j)) v ≡ countBelow 64 (member (getD (labelsAfter rows w (suc j)) v 0))
-        go same (inl vertex) =
-            let row = getD rows u 0 in
-            let here = o .vertices j h in
-            tally-more (getD columns v 0) (placedAfter w j) u (omega arith) fresh ∙ ap₂ (λ (b : Bool) (x : ℕ). cond b (suc x) x) (transpose .swapped u v here vertex) same
-            ∙ sym (label-more row j v (getD labels v 0) (omega (arith, ordering-fits (length rows) o)) (unused vertex))
-            ∙ sym (ap (λ (x : ℕ). countBelow 64 (member x)) (kept-next labelWith 0 rows w small j v vertex))
-        go same (inr beyond) =
-            let outside : length columns ≤ v = omega (arith, transpose .as-many) in
-            let none = List·getD-eq-default columns 0 outside in
-            none-counted (getD columns v 0) (placedAfter w (suc j)) none ∙ sym (none-counted (getD columns v 0) (placedAfter w j) none) ∙ same
-            ∙ ap (λ (x : ℕ). countBelow 64 (member x)) (kept-beyond labelWith 0 rows w j v l beyond ∙ sym (kept-beyond labelWith 0 rows w (suc j) v l beyond))
+        ∙ sym (count-none 64 (member (getD (labelsAfter rows w 0) v 0)) (λ p _. word.empty-back (kept-start labelWith 0 rows w v (omega arith)) p))
+    tallied-after (suc j) h v f =
+        let u : ℕ = at w j in
+        let row = getD rows u 0 in
+        let old = getD (labelsAfter rows w j) v 0 in
+        let vertex = free-vertex rows w small (suc j) v f in
+        let before = free-earlier rows w j v f in
+        let here = o .vertices j h in
+        -- the vertex is placed for the first time, and its position is in no label yet
+        let fresh : T (member (placedAfter w j) u) → ⊥ =
+        λ t. ordering-unplaced (length rows) o j h (subst (λ (x : Bool). T x) (placed-members j (omega arith) u) t)
+        in
+        let unused : T (member old j) → ⊥ =
+        λ t. omega (arith, cut-below j (member old) (label (arcs rows) w v) (label-members rows w k small o j (omega arith) v before) j t)
+        in
+        tally-more (getD columns v 0) (placedAfter w j) u (omega arith) fresh
+        ∙ ap₂ (λ (b : Bool) (x : ℕ). cond b (suc x) x) (transpose .swapped u v here vertex) (tallied-after j (omega arith) v before)
+        ∙ sym (label-more row j v old (omega (arith, ordering-fits (length rows) o)) unused)
+        ∙ sym (ap (λ (x : ℕ). countBelow 64 (member x)) (kept-next labelWith 0 rows w j v (omega arith) f))

@@ -1,8 +1,8 @@
 -- The running values that are kept beside the labels are the smallest and the largest position in each label.
 --   smallest-cut, largest-cut           a set that ends at a bound has its smallest and largest number below it
 --   smallest-running, largest-running   the bytes are those of runningSmallest and runningLargest
---   tracked-after                       after each vertex of an ordering they are the label's smallest and largest position
---   consistent-after                    so what is kept beside the labels agrees with them, also the count in row AND placed mask
+--   tracked-after                       after each vertex of an ordering they are, of an unplaced vertex, the label's smallest and largest position
+--   consistent-after                    so what is kept beside those labels agrees with them, also the count in row AND placed mask
 -- Assumes nothing.
 use mathlib.Core.Path.{_≡_, sym, ap, _∙_, subst}
 use mathlib.Core.Bool.{Bool, not, _&&_}
@@ -15,18 +15,18 @@ use lib.Dec.{T, ltb, eqb, eqb→eq, not-T}
 use lib.ListN.{length, getD}
 use Rattle.bitset.specs.Below.{anyBelow, firstBelow, lastBelow}
 use Rattle.bitset.specs.Word.{member}
-use Rattle.bitset.proofs.Tests.{not-not, decided, cond-yes, cond-no, below-or}
+use Rattle.bitset.proofs.Tests.{not-not, decided, cond-yes, cond-no}
 use Rattle.bitset.proofs.Below.{any-out, any-fewer, first, first-found, first-unique, last, last-unique}
-use Rattle.bitset.proofs.Word.{empty-back}
 use Rattle.searches.specs.Ordering.{arcs, at, IsOrdering}
 use Rattle.searches.specs.Label.{label, empty}
 use Rattle.searches.specs.Running.{smallestIn, largestIn, runningSmallest, runningLargest}
 use Rattle.searches.proofs.Ordering.{ordering-fits}
 use Rattle.searches.proofs.Running.{smallest-found, smallest-absent, largest-found, largest-absent, unchanged-unless-grown, smallest-begins, largest-moves, smallest-stays, smallest-kept, largest-kept, smallest-none, largest-none}
-use Rattle.labels.specs.Words.{smallestByte, largestByte, Tracked, Consistent, labelWith, smallestWith, largestWith, changedBy}
+use Rattle.labels.specs.Weights.{smallestByte, largestByte, Consistent}
+use Rattle.labels.specs.Words.{labelWith, smallestWith, largestWith, changedBy}
 use Rattle.steps.specs.Columns.{Transposed}
-use Rattle.steps.specs.Steps.{labelsAfter, smallestAfter, largestAfter, placedAfter}
-use Rattle.steps.proofs.Representation.{cut-same, cut-below, kept-start, kept-next, kept-beyond, label-members}
+use Rattle.steps.specs.Steps.{labelsAfter, smallestAfter, largestAfter, freeAfter, placedAfter}
+use Rattle.steps.proofs.Representation.{cut-same, cut-below, free-vertex, free-earlier, kept-length, kept-start, kept-next, label-members}
 use Rattle.steps.proofs.Tallying.{tallied-after}
 
 -- ---- sets that end at a bound
@@ -76,11 +76,12 @@ module _ (rows w : List ℕ) (k : ℕ) (small : length rows ≤ 64) (o : IsOrder
   abbrev arc : ℕ → ℕ → Bool
   arc = arcs rows
 
-  pub smallest-running : (j : ℕ) → j ≤ k → (v : ℕ) → v < length rows → getD (smallestAfter rows w j) v 0 ≡ smallestByte (runningSmallest arc w v j)
+  pub smallest-running : (j : ℕ) → j ≤ k → (v : ℕ) → T (member (freeAfter (length rows) w j) v) → getD (smallestAfter rows w j) v 0 ≡ smallestByte (runningSmallest arc w v j)
   unfolding changedBy smallestWith smallestByte label arcs empty anyBelow
-  smallest-running zero h v l = kept-start smallestWith 64 rows w v (omega arith) ∙ ap smallestByte (sym (smallest-none arc w v 0 .1 tt))
-  smallest-running (suc j) h v l =
-      kept-next smallestWith 64 rows w small j v l ∙ ap (changedBy (smallestWith j) row v) (smallest-running j (omega arith) v l) ∙ go (decided (label arc w v j))
+  smallest-running zero h v f = kept-start smallestWith 64 rows w v (omega (arith, free-vertex rows w small 0 v f)) ∙ ap smallestByte (sym (smallest-none arc w v 0 .1 tt))
+  smallest-running (suc j) h v f =
+      kept-next smallestWith 64 rows w j v (omega (arith, free-vertex rows w small (suc j) v f)) f
+      ∙ ap (changedBy (smallestWith j) row v) (smallest-running j (omega arith) v (free-earlier rows w j v f)) ∙ go (decided (label arc w v j))
     where
       row : ℕ
       row = getD rows (at w j) 0
@@ -108,11 +109,12 @@ module _ (rows w : List ℕ) (k : ℕ) (small : length rows ≤ 64) (o : IsOrder
       go (inr same) =
           cond-no (member row v) (smallestWith j (smallestByte now)) (smallestByte now) same ∙ ap smallestByte (sym (unchanged-unless-grown arc w v j same .0))
 
-  pub largest-running : (j : ℕ) → j ≤ k → (v : ℕ) → v < length rows → getD (largestAfter rows w j) v 0 ≡ largestByte (runningLargest arc w v j)
+  pub largest-running : (j : ℕ) → j ≤ k → (v : ℕ) → T (member (freeAfter (length rows) w j) v) → getD (largestAfter rows w j) v 0 ≡ largestByte (runningLargest arc w v j)
   unfolding changedBy largestByte label arcs empty anyBelow
-  largest-running zero h v l = kept-start largestWith 0 rows w v (omega arith) ∙ ap largestByte (sym (largest-none arc w v 0 .1 tt))
-  largest-running (suc j) h v l =
-      kept-next largestWith 0 rows w small j v l ∙ ap (changedBy (largestWith j) row v) (largest-running j (omega arith) v l) ∙ go (decided (label arc w v j))
+  largest-running zero h v f = kept-start largestWith 0 rows w v (omega (arith, free-vertex rows w small 0 v f)) ∙ ap largestByte (sym (largest-none arc w v 0 .1 tt))
+  largest-running (suc j) h v f =
+      kept-next largestWith 0 rows w j v (omega (arith, free-vertex rows w small (suc j) v f)) f
+      ∙ ap (changedBy (largestWith j) row v) (largest-running j (omega arith) v (free-earlier rows w j v f)) ∙ go (decided (label arc w v j))
     where
       row : ℕ
       row = getD rows (at w j) 0
@@ -124,35 +126,23 @@ module _ (rows w : List ℕ) (k : ℕ) (small : length rows ≤ 64) (o : IsOrder
       go (inl t) = cond-yes (member row v) (suc j) now t ∙ ap largestByte (sym (largest-moves arc w v j t))
       go (inr same) = cond-no (member row v) (suc j) now same ∙ ap largestByte (sym (unchanged-unless-grown arc w v j same .1))
 
-  pub tracked-after : (j : ℕ) → j ≤ k → Tracked (labelsAfter rows w j) (smallestAfter rows w j) (largestAfter rows w j)
-  unfolding smallestByte largestByte
-  tracked-after j h v l = go (below-or v (length rows))
-    where
-      word : ℕ
-      word = getD (labelsAfter rows w j) v 0
+  -- of an unplaced vertex
+  pub tracked-after : (j : ℕ) → j ≤ k → (v : ℕ) → T (member (freeAfter (length rows) w j) v)
+      → let word = getD (labelsAfter rows w j) v 0 in
+      (getD (smallestAfter rows w j) v 0 ≡ smallestByte (smallestIn 64 (member word))) × (getD (largestAfter rows w j) v 0 ≡ largestByte (largestIn 64 (member word)))
+  tracked-after j h v f =
+      let word = getD (labelsAfter rows w j) v 0 in
+      let fits : j ≤ 64 = omega (arith, ordering-fits (length rows) o) in
+      let cut = label-members rows w k small o j h v f in (
+        smallest-running j h v f ∙ ap smallestByte (smallest-kept arc w v j ∙ sym (smallest-cut j 64 fits (member word) (label arc w v) cut)),
+        largest-running j h v f ∙ ap largestByte (largest-kept arc w v j ∙ sym (largest-cut j 64 fits (member word) (label arc w v) cut)),
+      )
 
-      go : (v < length rows) ⊎ (length rows ≤ v)
-          → (getD (smallestAfter rows w j) v 0 ≡ smallestByte (smallestIn 64 (member word))) × (getD (largestAfter rows w j) v 0 ≡ largestByte (largestIn 64 (member word)))
-      go (inl vertex) =
-          let fits : j ≤ 64 = omega (arith, ordering-fits (length rows) o) in
-          let cut = label-members rows w k small o j h v vertex in (
-            smallest-running j h v vertex ∙ ap smallestByte (smallest-kept arc w v j ∙ sym (smallest-cut j 64 fits (member word) (label arc w v) cut)),
-            largest-running j h v vertex ∙ ap largestByte (largest-kept arc w v j ∙ sym (largest-cut j 64 fits (member word) (label arc w v) cut)),
-          )
-      go (inr beyond) =
-          let none-there : T (anyBelow 64 (member word)) → ⊥ = λ t.
-          let x = any-out 64 (member word) t in
-          empty-back (kept-beyond labelWith 0 rows w j v l beyond) (x .at) (x .holds)
-          in (
-            kept-beyond smallestWith 64 rows w j v l beyond ∙ ap smallestByte (sym (smallest-absent 64 (member word) none-there)),
-            kept-beyond largestWith 0 rows w j v l beyond ∙ ap largestByte (sym (largest-absent 64 (member word) none-there)),
-          )
-
-  pub consistent-after : {columns : List ℕ} → Transposed rows columns → (j : ℕ) → j ≤ k → {labels smallest largest : List ℕ} {placed : ℕ} → labels ≡ labelsAfter rows w j
-      → smallest ≡ smallestAfter rows w j → largest ≡ largestAfter rows w j → placed ≡ placedAfter w j → Consistent columns labels smallest largest placed
-  consistent-after {columns} transpose j h {labels} {smallest} {largest} {placed} at-labels at-smallest at-largest at-placed =
-      subst (λ (ls : List ℕ). Consistent columns ls smallest largest placed) (sym at-labels)
-      (subst (λ (ss : List ℕ). Consistent columns (labelsAfter rows w j) ss largest placed) (sym at-smallest)
-      (subst (λ (ls : List ℕ). Consistent columns (labelsAfter rows w j) (smallestAfter rows w j) ls placed) (sym at-largest)
-      (subst (λ (set : ℕ). Consistent columns (labelsAfter rows w j) (smallestAfter rows w j) (largestAfter rows w j) set) (sym at-placed)
-      (record { tallied = tallied-after rows w k small o columns transpose j h; tracked = tracked-after j h }))))
+  pub consistent-after : {columns : List ℕ} → Transposed rows columns → (j : ℕ) → j ≤ k → (row : ℕ) → ((v : ℕ) → T (member row v) → T (member (freeAfter (length rows) w j) v))
+      → Consistent columns (placedAfter w j) row (labelsAfter rows w j) (smallestAfter rows w j) (largestAfter rows w j)
+  consistent-after {columns} transpose j h row unplaced = record {
+    long = (kept-length labelWith 0 rows w j, kept-length smallestWith 64 rows w j, kept-length largestWith 0 rows w j);
+    tallied = λ v _ t. tallied-after rows w k small o columns transpose j h v (unplaced v t);
+    smallest-kept = λ v _ t. tracked-after j h v (unplaced v t) .0;
+    largest-kept = λ v _ t. tracked-after j h v (unplaced v t) .1;
+  }

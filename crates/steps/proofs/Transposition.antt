@@ -20,7 +20,8 @@ use Rattle.searches.specs.declared.Mark.{Mark}
 use Rattle.labels.specs.Words.{labelWith}
 use Rattle.labels.proofs.Spreading.{spread-length, spread-at}
 use Rattle.steps.specs.Columns.{columnsBelow, transposed, columnsOf, Transposed}
-use Rattle.steps.proofs.Representation.{suc-split, cut-same, member-joined}
+use Rattle.labels.proofs.Joining.{suc-split, member-joined}
+use Rattle.steps.proofs.Representation.{cut-same}
 
 -- 02: K4, a two-way graph's rows need no transposing
 pub own-transpose : (rows : List ℕ) → BothWays rows → Transposed rows rows

@@ -4,5 +4,6 @@ pub mod columns;
 pub mod copy;
 pub mod fill;
 pub mod lookup;
+pub mod place;
 pub mod replay;
 pub mod violation;

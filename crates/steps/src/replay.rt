@@ -1,25 +1,24 @@
 // An ordering placed again, vertex by vertex, until one was not offered.
-use crate::lookup::row_of;
 use crate::lookup::vertex_at;
-use labels::profile::profile_of;
+use crate::place::Stage;
+use crate::place::place;
 use searches::Kind;
 use searches::Position;
 ghost use mathlib.Core.Path.{_≡_};
 ghost use lib.ListN.{length};
 ghost use Rattle.bitset.specs.Below.{firstBelow};
 ghost use Rattle.searches.specs.Kind.{searchOf};
-ghost use Rattle.steps.specs.Steps.{labelsAfter, smallestAfter, largestAfter, placedAfter, freeAfter, reachedAfter, stopsAt, Replayable};
+ghost use Rattle.steps.specs.Steps.{labelsAfter, smallestAfter, largestAfter, placedAfter, freeAfter, stopsAt, Staged, Replayable};
 
-// How many vertices a replay placed, which these are, which were then unplaced, and which the placed ones lead to.
-pub struct Placed {
+// How many vertices a replay placed, and the stage that it then reached.
+pub struct Replayed {
     pub count: usize,
-    pub set: u64,
-    pub free: u64,
-    pub reached: u64,
+    pub stage: Stage,
 }
 
 // Places the first `k` vertices of `ordering` up to the first that was not offered. `labels` comes in empty, `smallest` and `largest` without a
-// position (64 and 0); they go out with the labels and the running values of that moment. `columns` are the rows, transposed.
+// position (64 and 0), `weights` with zeros; they go out with the labels, the running values and the weights of that moment. `columns` are the rows,
+// transposed.
 pub fn replay(
     kind: Kind,
     rows: &[u64],
@@ -29,49 +28,49 @@ pub fn replay(
     labels: &mut [u64; 64],
     smallest: &mut [u8; 64],
     largest: &mut [u8; 64],
-) -> Placed
-    requires { ⌜ Replayable (now rows) (now columns) (now ordering) k (now labels) (now smallest) (now largest) ⌝ }
+    weights: &mut [u64; 64],
+) -> Replayed
+    requires { ⌜ Replayable (now rows) (now columns) (now ordering) k (now labels) (now smallest) (now largest) (now weights) ⌝ }
     ensures count { λ r. ⌜ r .count ≡ firstBelow k (stopsAt (searchOf (kind .0)) (now (rows .entry)) (now (ordering .entry))) ⌝ }
-    ensures set { λ r. ⌜ r .set ≡ placedAfter (now (ordering .entry)) (r .count) ⌝ }
-    ensures free { λ r. ⌜ r .free ≡ freeAfter (length (now (rows .entry))) (now (ordering .entry)) (r .count) ⌝ }
-    ensures reached { λ r. ⌜ r .reached ≡ reachedAfter (now (rows .entry)) (now (ordering .entry)) (r .count) ⌝ }
+    ensures set { λ r. ⌜ r .stage .set ≡ placedAfter (now (ordering .entry)) (r .count) ⌝ }
+    ensures free { λ r. ⌜ r .stage .free ≡ freeAfter (length (now (rows .entry))) (now (ordering .entry)) (r .count) ⌝ }
     ensures labels { λ r. ⌜ now (labels .exit) ≡ labelsAfter (now (rows .entry)) (now (ordering .entry)) (r .count) ⌝ }
     ensures smallest { λ r. ⌜ now (smallest .exit) ≡ smallestAfter (now (rows .entry)) (now (ordering .entry)) (r .count) ⌝ }
     ensures largest { λ r. ⌜ now (largest .exit) ≡ largestAfter (now (rows .entry)) (now (ordering .entry)) (r .count) ⌝ }
+    ensures staged { λ r. ⌜ Staged (searchOf (kind .0)) (now (labels .exit)) (now (weights .exit)) (r .stage) ⌝ }
 {
-    let mut set = 0u64;
-    let mut free = bitset::full_below(rows.len());
-    let mut reached = 0u64;
+    let all = bitset::full_below(rows.len());
+    let mut stage = Stage {
+        set: 0,
+        free: all,
+        reached: 0,
+        offered: all,
+    };
     for j in 0..k {
         let b = vertex_at(ordering, Position(j));
-        let mine = profile_of(kind, columns, labels, smallest, largest, set, b);
-        if labels::is_beaten(
+        if !labels::choice::is_open(
             kind,
+            labels,
+            weights,
+            stage.free,
+            stage.reached,
+            stage.offered,
+            b,
+        ) {
+            return Replayed { count: j, stage };
+        }
+        stage = place(
+            kind,
+            rows,
             columns,
             labels,
             smallest,
             largest,
-            set,
-            bitset::common(free, reached),
-            mine,
-        ) {
-            return Placed {
-                count: j,
-                set,
-                free,
-                reached,
-            };
-        }
-        let row = row_of(rows, b);
-        labels::spread(labels, smallest, largest, row, Position(j), rows.len());
-        set = bitset::insert(set, b.0 as usize);
-        free = bitset::remove(free, b.0 as usize);
-        reached = bitset::union(reached, row);
+            weights,
+            stage,
+            b,
+            Position(j),
+        );
     }
-    Placed {
-        count: k,
-        set,
-        free,
-        reached,
-    }
+    Replayed { count: k, stage }
 }

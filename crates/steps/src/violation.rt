@@ -15,7 +15,7 @@ ghost use Rattle.bitset.specs.Below.{anyBelow, firstBelow};
 ghost use Rattle.searches.specs.Kind.{searchOf};
 ghost use Rattle.searches.specs.Answer.{verdictOf};
 ghost use Rattle.searches.specs.declared.Judgement.{Judgement};
-ghost use Rattle.labels.specs.Words.{Consistent, profileOf};
+ghost use Rattle.labels.specs.Words.{Weighed, profileOf};
 ghost use Rattle.steps.specs.Steps.{frontIn, completesIn, behindIn, lastOf, firstIn, Searchable, Positioned, firstFault};
 
 // The vertices of `free` that `a` leads to; none where `a` leads to `b`, too.
@@ -34,55 +34,40 @@ fn front_of(rows: &[u64], free: u64, a: Vertex, b: Vertex) -> u64
 // excuses position `i` against its label.
 fn completes(
     kind: Kind,
-    columns: &[u64],
     labels: &[u64; 64],
-    smallest: &[u8; 64],
-    largest: &[u8; 64],
-    placed: u64,
+    weights: &[u64; 64],
     front: u64,
     i: Position,
     mine: Profile,
     c: Vertex,
 ) -> bool
-    requires { ⌜ (i .0 < 64) × (mine ≡ profileOf (searchOf (kind .0)) (mine .label)) × Consistent (now columns) (now labels) (now smallest) (now largest) placed ⌝ }
+    requires { ⌜ (i .0 < 64) × (mine ≡ profileOf (searchOf (kind .0)) (mine .label)) × Weighed (searchOf (kind .0)) (now labels) (now weights) ⌝ }
     ensures { λ r. ⌜ r ≡ completesIn (searchOf (kind .0)) (now (labels .entry)) front (i .0) (mine .label) (c .0) ⌝ }
 {
     let last = c.0 as usize;
     if !bitset::contains(front, last) {
         return false;
     }
-    labels::is_unexcused(
-        kind,
-        i,
-        profile_of(kind, columns, labels, smallest, largest, placed, c),
-        mine,
-    )
+    labels::is_unexcused(kind, i, profile_of(labels, weights, c), mine)
 }
 
 // Of the vertices that complete a violation the one with the smallest number; 64 where there is none.
 fn first_by_number(
     kind: Kind,
-    columns: &[u64],
     labels: &[u64; 64],
-    smallest: &[u8; 64],
-    largest: &[u8; 64],
-    placed: u64,
+    weights: &[u64; 64],
     front: u64,
     i: Position,
     mine: Profile,
 ) -> Vertex
-    requires { ⌜ (i .0 < 64) × (mine ≡ profileOf (searchOf (kind .0)) (mine .label)) × Consistent (now columns) (now labels) (now smallest) (now largest) placed ⌝ }
+    requires { ⌜ (i .0 < 64) × (mine ≡ profileOf (searchOf (kind .0)) (mine .label)) × Weighed (searchOf (kind .0)) (now labels) (now weights) ⌝ }
     ensures { λ r. ⌜ r .0 ≡ firstBelow 64 (completesIn (searchOf (kind .0)) (now (labels .entry)) front (i .0) (mine .label)) ⌝ }
 {
     let mut rest = front;
     while rest != 0 {
-        let c = Vertex(bitset::smallest(rest) as u8);
-        if labels::is_unexcused(
-            kind,
-            i,
-            profile_of(kind, columns, labels, smallest, largest, placed, c),
-            mine,
-        ) {
+        let number = bitset::smallest(rest) as u8;
+        let c = Vertex(number);
+        if labels::is_unexcused(kind, i, profile_of(labels, weights, c), mine) {
             return c;
         }
         rest = bitset::without_smallest(rest);
@@ -93,37 +78,23 @@ fn first_by_number(
 // The first position behind `j` and below `k` with a vertex that completes a violation; `k` where there is none.
 fn first_by_position(
     kind: Kind,
-    columns: &[u64],
     ordering: &[u8],
     k: usize,
     labels: &[u64; 64],
-    smallest: &[u8; 64],
-    largest: &[u8; 64],
-    placed: u64,
+    weights: &[u64; 64],
     front: u64,
     j: Position,
     i: Position,
     mine: Profile,
 ) -> Position
-    requires { ⌜ Positioned (now ordering) k (j .0) (i .0) × (mine ≡ profileOf (searchOf (kind .0)) (mine .label)) × Consistent (now columns) (now labels) (now smallest) (now largest) placed ⌝ }
+    requires { ⌜ Positioned (now ordering) k (j .0) (i .0) × (mine ≡ profileOf (searchOf (kind .0)) (mine .label)) × Weighed (searchOf (kind .0)) (now labels) (now weights) ⌝ }
     ensures { λ r. ⌜ r .0 ≡ firstBelow k (behindIn (searchOf (kind .0)) (now (labels .entry)) front (i .0) (mine .label) (now (ordering .entry)) (j .0)) ⌝ }
 {
     let middle = j.0;
     let behind = middle + 1;
     for p in behind..k {
         let c = vertex_at(ordering, Position(p));
-        if completes(
-            kind,
-            columns,
-            labels,
-            smallest,
-            largest,
-            placed,
-            front,
-            i,
-            mine,
-            c,
-        ) {
+        if completes(kind, labels, weights, front, i, mine, c) {
             return Position(p);
         }
     }
@@ -133,87 +104,48 @@ fn first_by_position(
 // The third vertex of the first violation: by position behind `j`, and where none is found there by number.
 fn first_last(
     kind: Kind,
-    columns: &[u64],
     ordering: &[u8],
     k: usize,
     labels: &[u64; 64],
-    smallest: &[u8; 64],
-    largest: &[u8; 64],
-    placed: u64,
+    weights: &[u64; 64],
     front: u64,
     j: Position,
     i: Position,
     mine: Profile,
 ) -> Vertex
-    requires { ⌜ Positioned (now ordering) k (j .0) (i .0) × (mine ≡ profileOf (searchOf (kind .0)) (mine .label)) × Consistent (now columns) (now labels) (now smallest) (now largest) placed ⌝ }
+    requires { ⌜ Positioned (now ordering) k (j .0) (i .0) × (mine ≡ profileOf (searchOf (kind .0)) (mine .label)) × Weighed (searchOf (kind .0)) (now labels) (now weights) ⌝ }
     ensures { λ r. ⌜ r .0 ≡ lastOf (searchOf (kind .0)) (now (labels .entry)) front (i .0) (mine .label) (now (ordering .entry)) (j .0) k ⌝ }
 {
-    let position = first_by_position(
-        kind,
-        columns,
-        ordering,
-        k,
-        labels,
-        smallest,
-        largest,
-        placed,
-        front,
-        j,
-        i,
-        mine,
-    );
+    let position = first_by_position(kind, ordering, k, labels, weights, front, j, i, mine);
     if position.0 < k {
         return vertex_at(ordering, position);
     }
-    first_by_number(
-        kind,
-        columns,
-        labels,
-        smallest,
-        largest,
-        placed,
-        front,
-        i,
-        mine,
-    )
+    first_by_number(kind, labels, weights, front, i, mine)
 }
 
 // The first position of a vertex that starts a violation with the vertex at position `j`; `j` where there is none.
 fn first_first(
     kind: Kind,
     rows: &[u64],
-    columns: &[u64],
     ordering: &[u8],
     k: usize,
     labels: &[u64; 64],
-    smallest: &[u8; 64],
-    largest: &[u8; 64],
-    placed: u64,
+    weights: &[u64; 64],
     free: u64,
     j: Position,
 ) -> Position
-    requires { ⌜ Searchable (now rows) (now columns) (now ordering) k (now labels) (now smallest) (now largest) placed free (j .0) ⌝ }
+    requires { ⌜ Searchable (searchOf (kind .0)) (now rows) (now ordering) k (now labels) (now weights) free (j .0) ⌝ }
     ensures { λ r. ⌜
         r .0 ≡ firstBelow (j .0) (firstIn (searchOf (kind .0)) (now (rows .entry)) (now (ordering .entry)) (now (labels .entry)) free (j .0) k)
         ⌝ }
 {
     let b = vertex_at(ordering, j);
-    let mine = profile_of(kind, columns, labels, smallest, largest, placed, b);
+    let mine = profile_of(labels, weights, b);
     let middle = j.0;
     for i in 0..middle {
         let a = vertex_at(ordering, Position(i));
         let front = front_of(rows, free, a, b);
-        let c = first_by_number(
-            kind,
-            columns,
-            labels,
-            smallest,
-            largest,
-            placed,
-            front,
-            Position(i),
-            mine,
-        );
+        let c = first_by_number(kind, labels, weights, front, Position(i), mine);
         if c.0 < 64 {
             return Position(i);
         }
@@ -221,57 +153,28 @@ fn first_first(
     j
 }
 
-// The first violation with the vertex at position `j`, which has one. `labels`, `smallest`, `largest`, `placed` and
-// `free` are those of its turn, `columns` the rows, transposed.
+// The first violation with the vertex at position `j`, which has one. `labels`, `weights` and `free` are those of its turn.
 pub fn first_violation(
     kind: Kind,
     rows: &[u64],
-    columns: &[u64],
     ordering: &[u8],
     k: usize,
     labels: &[u64; 64],
-    smallest: &[u8; 64],
-    largest: &[u8; 64],
-    placed: u64,
+    weights: &[u64; 64],
     free: u64,
     j: Position,
 ) -> Violation
-    requires { ⌜ Searchable (now rows) (now columns) (now ordering) k (now labels) (now smallest) (now largest) placed free (j .0) × T (anyBelow (j .0) (firstIn (searchOf (kind .0)) (now rows) (now ordering) (now labels) free (j .0) k)) ⌝ }
+    requires { ⌜ Searchable (searchOf (kind .0)) (now rows) (now ordering) k (now labels) (now weights) free (j .0) × T (anyBelow (j .0) (firstIn (searchOf (kind .0)) (now rows) (now ordering) (now labels) free (j .0) k)) ⌝ }
     ensures { λ r. ⌜
         verdictOf (Judgement.Fails r)
         ≡ firstFault (searchOf (kind .0)) (now (rows .entry)) (now (ordering .entry)) (now (labels .entry)) free (j .0) k
         ⌝ }
 {
-    let i = first_first(
-        kind,
-        rows,
-        columns,
-        ordering,
-        k,
-        labels,
-        smallest,
-        largest,
-        placed,
-        free,
-        j,
-    );
+    let i = first_first(kind, rows, ordering, k, labels, weights, free, j);
     let a = vertex_at(ordering, i);
     let b = vertex_at(ordering, j);
     let front = front_of(rows, free, a, b);
-    let mine = profile_of(kind, columns, labels, smallest, largest, placed, b);
-    let c = first_last(
-        kind,
-        columns,
-        ordering,
-        k,
-        labels,
-        smallest,
-        largest,
-        placed,
-        front,
-        j,
-        i,
-        mine,
-    );
+    let mine = profile_of(labels, weights, b);
+    let c = first_last(kind, ordering, k, labels, weights, front, j, i, mine);
     Violation { a, b, c }
 }

@@ -12,7 +12,7 @@ use lib.Dec.{T, ltb, eqb, leb·suc-zero}
 use Rattle.bitset.specs.Word.{member, inserted}
 use Rattle.bitset.proofs.Tests.{and-true, cond-no}
 use Rattle.bitset.proofs.Word.{member-zero, member-inserted}
-use Rattle.steps.proofs.Representation.{suc-split}
+use Rattle.labels.proofs.Joining.{suc-split}
 use Rattle.traversal.specs.State.{setBelow}
 
 pub set-more : (f : ℕ → Bool) {v set : ℕ} → set ≡ setBelow v f → f v ≡ true → inserted set v ≡ setBelow (v + 1) f

@@ -4,16 +4,16 @@
 --   well-formed-out, well-formed-in  wellFormed: condition by condition
 --   surveyed-broken, surveyed-judged what survey hands back where a test fails, and where judge decides
 --   surveyed-passes, surveyed-words  whether the open walk is well formed, and the words of the moment where it is
---   surveyed-consistent              what these words keep beside the labels agrees with them
+--   surveyed-weighed                 the weights are those of the labels
 --   open-offers, free-offers, compared-stance   the words of the moment decide who is offered, who is placed and how two stand to each other
 -- Assumes nothing.
 use Prim.Native.Nat.{ℕ, _≤_, _<_}
 use mathlib.Core.Path.{_≡_, refl, sym, ap, ap₂, _∙_, subst}
 use mathlib.Core.Bool.{Bool, true, false, cond, not, _&&_}
-use mathlib.Core.List.{List}
+use mathlib.Core.List.{List, map}
 use native.Mathlib.Omega.{arith}
 use lib.Dec.{T, leb, leb→le, le→leb, not-T, T-not}
-use lib.ListN.{length, take, getD, length-take}
+use lib.ListN.{length, getD}
 use lib.Seq.{length-take-le}
 use Rattle.bitset.specs.Word.{member}
 use Rattle.bitset.proofs.Tests.{and-in, and-out, is-true, cond-yes, cond-no}
@@ -24,14 +24,12 @@ use Rattle.searches.specs.Violation.{judge}
 use Rattle.searches.specs.Answer.{isPass, judgeAnswer}
 use Rattle.searches.proofs.Ordering.{ordering-fits}
 use Rattle.searches.proofs.Answers.{passes-accepts, accepted-ordering, ordering-accepted, judge-accepted, isPass-in, isPass-out}
-use Rattle.labels.specs.Words.{Consistent, comparedIn, openIn}
-use Rattle.steps.specs.Columns.{columnsOf, Transposed}
-use Rattle.steps.specs.Steps.{labelsAfter, smallestAfter, largestAfter, placedAfter, freeAfter}
+use Rattle.labels.specs.Weights.{weightOf}
+use Rattle.labels.specs.Words.{Weighed, comparedIn, openIn}
+use Rattle.steps.specs.Steps.{labelsAfter, freeAfter}
 use Rattle.steps.proofs.Representation.{open-offered, free-unplaced, compared-same}
-use Rattle.steps.proofs.Tracking.{consistent-after}
 use Rattle.engine.specs.declared.after.Moment.{Moment}
 use Rattle.engine.specs.Moments.{noMoment, momentOf, momentAfter}
-use Rattle.engine.proofs.Calls.{valid-columns}
 use Rattle.traversal.specs.declared.Traversal.{Traversal}
 use Rattle.traversal.proofs.Unused.{unused-out, unused-in}
 use Rattle.traversal.specs.State.{plan, walk, usedFrom, wellFormed, surveyed, WellFormed, offers}
@@ -81,18 +79,18 @@ by-judge t points places rows-unused places-unused =
 
 pub surveyed-broken : (t : Traversal) {r : Moment} → r ≡ noMoment → (T (wellFormed t) → ⊥) → r ≡ surveyed t
 unfolding surveyed
-surveyed-broken t is broken = is ∙ sym (cond-no (wellFormed t) (momentOf (t .mark) (plan t) (walk t)) noMoment broken)
+surveyed-broken t is broken = is ∙ sym (cond-no (wellFormed t) (momentOf (searchOf (t .kind .0)) (plan t) (walk t)) noMoment broken)
 
 pub surveyed-judged : (t : Traversal) {r : Moment} → r ≡ momentAfter (t .kind .0) (t .mark) (plan t) (walk t) → isPass (judgeAnswer (t .kind .0) (t .mark) (plan t) (walk t)) ≡ wellFormed t
     → r ≡ surveyed t
 unfolding surveyed momentAfter
-surveyed-judged t is decides = is ∙ ap (λ (b : Bool). cond b (momentOf (t .mark) (plan t) (walk t)) noMoment) decides
+surveyed-judged t is decides = is ∙ ap (λ (b : Bool). cond b (momentOf (searchOf (t .kind .0)) (plan t) (walk t)) noMoment) decides
 
 pub surveyed-passes : (t : Traversal) {r : Moment} → r ≡ surveyed t → r .passes ≡ wellFormed t
 unfolding surveyed momentOf noMoment
 surveyed-passes t is = ap (λ (m : Moment). m .passes) is ∙ go (wellFormed t)
   where
-    go : (b : Bool) → cond b (momentOf (t .mark) (plan t) (walk t)) noMoment .passes ≡ b
+    go : (b : Bool) → cond b (momentOf (searchOf (t .kind .0)) (plan t) (walk t)) noMoment .passes ≡ b
     go true = refl
     go false = refl
 
@@ -148,41 +146,16 @@ module _ (t : Traversal) (rows-full : length (t .rows) ≡ 64) (ordering-full : 
       let p = parts t x in
       let n = plan-length (p .points) in
       let k = walk-length (omega (arith, p .points, p .places)) in
-      let there = is ∙ cond-yes (wellFormed t) (momentOf (t .mark) (plan t) (walk t)) noMoment x in (
+      let there = is ∙ cond-yes (wellFormed t) (momentOf (searchOf (t .kind .0)) (plan t) (walk t)) noMoment x in (
         ap (λ (m : Moment). m .labels) there ∙ ap (λ (j : ℕ). labelsAfter (plan t) (walk t) j) k,
         ap (λ (m : Moment). m .free) there ∙ ap₂ (λ (m j : ℕ). freeAfter m (walk t) j) n k,
       )
 
-  -- the columns that come with the moment
-  pub surveyed-transposed : {r : Moment} → r ≡ surveyed t → T (wellFormed t) → Transposed (plan t) (take (t .n) (r .columns))
+  pub surveyed-weighed : {r : Moment} → r ≡ surveyed t → T (wellFormed t) → Weighed (searchOf (t .kind .0)) (r .labels) (r .weights)
   unfolding surveyed momentOf
-  surveyed-transposed is x =
-      let f = well-formed-out x in
-      subst (λ (columns : List ℕ). Transposed (plan t) (take (t .n) columns))
-      (sym (ap (λ (m : Moment). m .columns) (is ∙ cond-yes (wellFormed t) (momentOf (t .mark) (plan t) (walk t)) noMoment x)))
-      (subst (λ (m : ℕ). Transposed (plan t) (take m (columnsOf (t .mark) (plan t)))) (plan-length (f .points)) (valid-columns (t .kind .0) (t .mark) (plan t) (f .valid)))
-
-  -- there are n of them
-  pub surveyed-columns : {r : Moment} → r ≡ surveyed t → T (wellFormed t) → (t .n ≤ length (r .columns)) × (t .n ≡ length (take (t .n) (r .columns)))
-  surveyed-columns {r} is x =
-      let n = plan-length (parts t x .points) in
-      let transpose = surveyed-transposed is x in
-      let many : length (take (t .n) (r .columns)) ≡ t .n = transpose .as-many ∙ n in
-      (omega (arith, many, length-take (t .n) (r .columns)), sym many)
-
-  pub surveyed-consistent : {r : Moment} → r ≡ surveyed t → T (wellFormed t) → Consistent (take (t .n) (r .columns)) (r .labels) (r .smallest) (r .largest) (r .placed)
-  unfolding surveyed momentOf
-  surveyed-consistent {r} is x =
-      let f = well-formed-out x in
-      let n = plan-length (f .points) in
-      let k = walk-length (omega (arith, f .points, ordering-fits (t .n) (f .distinct))) in
-      let there = is ∙ cond-yes (wellFormed t) (momentOf (t .mark) (plan t) (walk t)) noMoment x in
-      let distinct = subst (λ (m : ℕ). IsOrdering m (walk t) (t .k)) (sym n) (f .distinct) in
-      consistent-after (plan t) (walk t) (t .k) (omega (arith, f .points)) distinct (surveyed-transposed is x) (t .k) (omega arith)
-      (ap (λ (m : Moment). m .labels) there ∙ ap (λ (j : ℕ). labelsAfter (plan t) (walk t) j) k)
-      (ap (λ (m : Moment). m .smallest) there ∙ ap (λ (j : ℕ). smallestAfter (plan t) (walk t) j) k)
-      (ap (λ (m : Moment). m .largest) there ∙ ap (λ (j : ℕ). largestAfter (plan t) (walk t) j) k)
-      (ap (λ (m : Moment). m .placed) there ∙ ap (λ (j : ℕ). placedAfter (walk t) j) k)
+  surveyed-weighed is x =
+      let there = is ∙ cond-yes (wellFormed t) (momentOf (searchOf (t .kind .0)) (plan t) (walk t)) noMoment x in
+      record { same = ap (λ (m : Moment). m .weights) there ∙ sym (ap (λ (m : Moment). map (weightOf (searchOf (t .kind .0))) (m .labels)) there) }
 
   module _ (x : WellFormed t) {labels : List ℕ} {free : ℕ} (labelled : labels ≡ labelsAfter (plan t) (walk t) (t .k))
       (unplaced : free ≡ freeAfter (t .n) (walk t) (t .k)) where
@@ -202,12 +175,12 @@ module _ (t : Traversal) (rows-full : length (t .rows) ≡ 64) (ordering-full : 
         ∙ open-offered (searchOf (t .kind .0)) (plan t) (walk t) (t .k) small distinct (t .k) (omega arith) v
         ∙ ap (λ (m : ℕ). offered (searchOf (t .kind .0)) (arcs (plan t)) m (walk t) (t .k) v) (plan-length (x .points))
 
-    pub compared-stance : (u v : ℕ) → u < t .n → v < t .n → comparedIn (searchOf (t .kind .0)) (getD labels u 0) (getD labels v 0) ≡ stance t u v
+    pub compared-stance : (u v : ℕ) → T (member free u) → T (member free v) → comparedIn (searchOf (t .kind .0)) (getD labels u 0) (getD labels v 0) ≡ stance t u v
     unfolding stance
     compared-stance u v a b =
         ap (λ (ls : List ℕ). comparedIn (searchOf (t .kind .0)) (getD ls u 0) (getD ls v 0)) labelled
-        ∙ compared-same (searchOf (t .kind .0)) (plan t) (walk t) (t .k) small distinct (t .k) u v (omega arith) (omega (arith, plan-length (x .points)))
-        (omega (arith, plan-length (x .points)))
+        ∙ compared-same (searchOf (t .kind .0)) (plan t) (walk t) (t .k) small distinct (t .k) u v (omega arith)
+        (subst (λ (f : ℕ). T (member f u)) free-is a) (subst (λ (f : ℕ). T (member f v)) free-is b)
 
     pub free-offers : (v : ℕ) → v < t .n → member free v ≡ not (placed (walk t) (t .k) v)
     free-offers v l =

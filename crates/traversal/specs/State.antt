@@ -3,8 +3,7 @@
 --   plan t, walk t                   its graph's rows, and its ordering                                            [01: plan, walk]
 --   usedAt m l i, usedFrom m l       entry i of l is behind the first m and not 0; some of the 64 is
 --   wellFormed t                     the test;   WellFormed t   the same condition by condition                    [01: well formed]
---   surveyed t                       the placed and the unplaced vertices, the labels and the running values after the walk, and its graph's columns; none and
---                                    empty where t is not well formed
+--   surveyed t                       the unplaced vertices, the labels and their weights after the walk; none and empty where t is not well formed
 --   offers t v                       v is offered after the walk                                                   [01: offered]
 --   setBelow n f                     the numbers below n at which f holds, as a word
 --   placeTests, takeBackTests        what is refused: numbers and tests in 01's order                              [01: from the state]
@@ -68,7 +67,7 @@ pub record WellFormed (t : Traversal) : Type 0 where
   pub places-unused : (p : ℕ) → t .k ≤ p → p < 64 → at (t .ordering) p ≡ 0
 
 unfoldable pub surveyed : Traversal → Moment
-surveyed t = cond (wellFormed t) (momentOf (t .mark) (plan t) (walk t)) noMoment
+surveyed t = cond (wellFormed t) (momentOf (searchOf (t .kind .0)) (plan t) (walk t)) noMoment
 
 -- ---- who is offered
 

@@ -40,27 +40,9 @@ pub fn compare(
         return Standing::Refused(Refusal::AlreadyPlaced);
     }
     // copied, since the prover covers no two fields of one struct that are borrowed at once
-    let columns = moment.columns;
     let labels = moment.labels;
-    let smallest = moment.smallest;
-    let largest = moment.largest;
-    let c = profile_of(
-        kind,
-        &columns[..n],
-        &labels,
-        &smallest,
-        &largest,
-        moment.placed,
-        first,
-    );
-    let b = profile_of(
-        kind,
-        &columns[..n],
-        &labels,
-        &smallest,
-        &largest,
-        moment.placed,
-        second,
-    );
+    let weights = moment.weights;
+    let c = profile_of(&labels, &weights, first);
+    let b = profile_of(&labels, &weights, second);
     Standing::Told(labels::compare(kind, c, b))
 }

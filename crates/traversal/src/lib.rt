@@ -108,20 +108,9 @@ impl Traversal {
             };
         }
         // copied, since the prover covers no two fields of one struct that are borrowed at once
-        let columns = moment.columns;
         let labels = moment.labels;
-        let smallest = moment.smallest;
-        let largest = moment.largest;
-        let set = offers::open_below(
-            kind,
-            &columns[..n],
-            &labels,
-            &smallest,
-            &largest,
-            moment.placed,
-            moment.free,
-            n,
-        );
+        let weights = moment.weights;
+        let set = offers::open_below(kind, &labels, &weights, moment.free, n);
         Offering {
             traversal: self,
             set,

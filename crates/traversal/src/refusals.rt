@@ -39,20 +39,9 @@ pub fn place_refusal(
         return Outcome::Refused(Refusal::AlreadyPlaced);
     }
     // copied, since the prover covers no two fields of one struct that are borrowed at once
-    let columns = moment.columns;
     let labels = moment.labels;
-    let smallest = moment.smallest;
-    let largest = moment.largest;
-    if !offers::is_open(
-        kind,
-        &columns[..n],
-        &labels,
-        &smallest,
-        &largest,
-        moment.placed,
-        moment.free,
-        vertex,
-    ) {
+    let weights = moment.weights;
+    if !offers::is_open(kind, &labels, &weights, moment.free, vertex) {
         return Outcome::Refused(Refusal::NotOffered);
     }
     Outcome::Done

@@ -33,8 +33,8 @@ fn entry_used_from(ordering: &[u8], k: usize) -> bool
     false
 }
 
-// Whether the open walk of these parts is well formed; where it is, the labels, the running values and the placed and the unplaced vertices of
-// the moment, and the columns of its graph, else empty labels, no value, no vertex and empty columns. Its walk is judged once.
+// Whether the open walk of these parts is well formed; where it is, the unplaced vertices, the labels and their weights of the moment, else no vertex,
+// empty labels and no weight. Its walk is judged once.
 pub fn survey(kind: Kind, mark: Mark, n: usize, rows: &[u64], k: usize, ordering: &[u8]) -> Moment
     requires { ⌜ (length (now rows) ≡ 64) × (length (now ordering) ≡ 64) ⌝ }
     ensures { λ r. ⌜ r ≡ surveyed (state kind mark n (now (rows .entry)) k (now (ordering .entry))) ⌝ }

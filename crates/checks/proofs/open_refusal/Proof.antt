@@ -1,19 +1,20 @@
 -- `checks::open_refusal` meets its contract: each answer is given after the tests before it were tried, each on all rows.
 -- Assumes nothing.
 use mathlib.Core.List.{List}
-use mathlib.Core.Path.{_≡_, ap, _∙_}
+use mathlib.Core.Path.{_≡_, sym, ap, _∙_}
 use mathlib.Core.Bool.{Bool, false, _&&_}
 use Prim.Native.Nat.{ℕ}
 use denote.Ref.{now}
 use lib.ListN.{drop}
+use native.Mathlib.Omega.{arith}
 use borrow.Author.Tests.{lt-ltb, le-ltb}
 use Rattle.bitset.specs.Word.{fromUp}
 use Rattle.bitset.proofs.Tests.{is-true, is-false}
 use Rattle.bitset.proofs.Passed.{some-found, none-found}
 use Rattle.searches.specs.Ordering.{arcs}
-use Rattle.searches.specs.Answer.{bitOutside, selfLoop, oneWay, isTwoWay, openTests, number, refusalOf}
+use Rattle.searches.specs.Answer.{bitOutside, selfLoop, isTwoWay, openTests, number, refusalOf}
 use Rattle.searches.specs.declared.Mark.{Mark}
-use Rattle.checks.specs.Row.{outsideAt, loopAt, unanswered, oneWayAt, refusedAt}
+use Rattle.checks.specs.Row.{outsideAt, loopAt, refusedAt}
 use Rattle.checks.proofs.Tried.{Tried, tried-none, tried-one, refused-here, accepted-here}
 use Rattle.checks.proofs.open_refusal.Statement.{statement}
 use Rattle.checks.proofs.open_refusal.Tie as tie
@@ -33,11 +34,13 @@ past-2 : (c : tie.Else2) → Past 2 (c .before .before)
 unfolding openTests
 past-2 c = tried-one (past-1 (c .before)) (le-ltb _ _ (c .if2 .left))
 
+no-bit-outside : (c : tie.Else3) → bitOutside (now (c .before .before .before .before .before .before .before .before .args .rows)) ≡ false
+unfolding bitOutside refusedAt outsideAt fromUp arcs
+no-bit-outside c = is-false _ (none-found _ _ _ (c .before .before .first-refused .ensures) (c .if3 .left))
+
 past-3 : (c : tie.Else3) → Past 3 (c .before .before .before .before .before)
-unfolding openTests bitOutside refusedAt outsideAt fromUp arcs
-past-3 c =
-    let looked = c .before .before in
-    tried-one (past-2 (looked .before)) (is-false _ (none-found _ _ _ (looked .first-refused .ensures) (c .if3 .left)))
+unfolding openTests
+past-3 c = tried-one (past-2 (c .before .before .before)) (no-bit-outside c)
 
 past-4 : (c : tie.Else4) → Past 4 (c .before .before .before .before .before .before)
 unfolding openTests selfLoop refusedAt loopAt
@@ -53,10 +56,10 @@ unfolding isTwoWay
 five-tried {b = b} a e same = ap (λ (m : Mark). isTwoWay m && b) e ∙ same
 
 past-5 : (c : tie.Else5) → Past 5 (c .before .before .before .before .before .before .before .before .before .before)
-unfolding openTests oneWay refusedAt oneWayAt unanswered
+unfolding openTests
 past-5 c =
     tried-one (past-4 (c .before .before .before .before))
-    (five-tried _ (c .before .before .enum-told2 .given .1) (is-false _ (none-found _ _ _ (c .before .first-refused3 .ensures) (c .if5 .left))))
+    (five-tried _ (c .before .before .enum-told2 .given .1) (sym (c .before .one-way .ensures) ∙ c .if5 .left))
 
 not-tried-5 : (c : tie.After-enum-told) → Past 5 (c .before .before .before .before .before .before .before .before)
 unfolding openTests
@@ -96,14 +99,14 @@ returns-5 c = accepted-here (not-tried-5 c)
 enum-told-2 : tie.Need-enum-told-2
 enum-told-2 c = c .match .keys2
 
-first-refused-requires-3 : tie.Need-first-refused-requires-3
-first-refused-requires-3 c κs = tt
+one-way-requires : tie.Need-one-way-requires
+one-way-requires c κs = (omega arith, no-bit-outside (c .before .before .before))
 
 returns-6 : tie.Need-returns-6
-unfolding openTests number refusalOf oneWay refusedAt oneWayAt unanswered
+unfolding openTests number refusalOf
 returns-6 c =
     refused-here (past-4 (c .before .before .before .before))
-    (five-tried _ (c .before .before .enum-told2 .given .1) (is-true _ (some-found _ _ _ (c .before .first-refused3 .ensures) (c .if5 .taken))))
+    (five-tried _ (c .before .before .enum-told2 .given .1) (sym (c .before .one-way .ensures) ∙ c .if5 .taken))
 
 returns-7 : tie.Need-returns-7
 unfolding openTests number refusalOf
@@ -122,6 +125,6 @@ open-refusal-spec =
     enum-told
     returns-5
     enum-told-2
-    first-refused-requires-3
+    one-way-requires
     returns-6
     returns-7)

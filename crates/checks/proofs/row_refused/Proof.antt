@@ -1,6 +1,6 @@
 -- `checks::row_refused` meets its contract: each number is given for its own test.
 -- Assumes nothing.
-use mathlib.Core.Path.{_≡_, refl, sym, ap₂, _∙_}
+use mathlib.Core.Path.{_≡_, sym, ap, _∙_}
 use mathlib.Core.Bool.{Bool, cond}
 use mathlib.Core.List.{List}
 use Prim.Native.Nat.{ℕ}
@@ -9,15 +9,14 @@ use lib.Dec.{eqb}
 use borrow.Author.Needs.{needs}
 use borrow.Author.Tests.{eq-eqb, ne-eqb}
 use Rattle.searches.specs.Ordering.{arcs}
-use Rattle.checks.specs.Row.{outsideAt, loopAt, oneWayAt, refusedAt}
+use Rattle.checks.specs.Row.{outsideAt, loopAt, refusedAt}
 use Rattle.checks.proofs.row_refused.Statement.{statement}
 use Rattle.checks.proofs.row_refused.Tie as tie
 
 -- the test that a number is given for
-chosen : (r : ℕ) (rows : List ℕ) (u : ℕ) {three four : Bool} → eqb r 3 ≡ three → eqb r 4 ≡ four
-    → cond three (outsideAt rows u) (cond four (loopAt rows u) (oneWayAt rows u)) ≡ refusedAt r rows u
+chosen : (r : ℕ) (rows : List ℕ) (u : ℕ) {three : Bool} → eqb r 3 ≡ three → cond three (outsideAt rows u) (loopAt rows u) ≡ refusedAt r rows u
 unfolding refusedAt
-chosen r rows u e f = sym (ap₂ (λ (a b : Bool). cond a (outsideAt rows u) (cond b (loopAt rows u) (oneWayAt rows u))) e f)
+chosen r rows u e = sym (ap (λ (b : Bool). cond b (outsideAt rows u) (loopAt rows u)) e)
 
 mul-any-from : tie.Need-mul-any-from
 mul-any-from c = search needs
@@ -32,7 +31,7 @@ returns : tie.Need-returns
 unfolding outsideAt
 returns c =
     let a = c .before .before .before .before .args in
-    c .any-from .ensures ∙ chosen (a .number) (now (a .rows)) (a .u) (eq-eqb _ _ (c .before .before .if1 .taken)) refl
+    c .any-from .ensures ∙ chosen (a .number) (now (a .rows)) (a .u) (eq-eqb _ _ (c .before .before .if1 .taken))
 
 mul-contains : tie.Need-mul-contains
 mul-contains c = search needs
@@ -46,18 +45,8 @@ contains-requires c κs = tt
 returns-2 : tie.Need-returns-2
 unfolding loopAt arcs
 returns-2 c =
-    let a = c .before .before .before .before .before .args in
-    c .contains .ensures
-    ∙ chosen (a .number) (now (a .rows)) (a .u) (ne-eqb _ _ (c .before .before .before .if1 .left)) (eq-eqb _ _ (c .before .before .if2 .taken))
-
-one-way-from-requires : tie.Need-one-way-from-requires
-one-way-from-requires c κs = search needs
-
-returns-3 : tie.Need-returns-3
-returns-3 c =
     let a = c .before .before .before .before .args in
-    c .one-way-from .ensures
-    ∙ chosen (a .number) (now (a .rows)) (a .u) (ne-eqb _ _ (c .before .before .if1 .left)) (ne-eqb _ _ (c .before .if2 .left))
+    c .contains .ensures ∙ chosen (a .number) (now (a .rows)) (a .u) (ne-eqb _ _ (c .before .before .if1 .left))
 
 pub row-refused-spec : {M : Type 1} → statement M
 row-refused-spec =
@@ -70,6 +59,4 @@ row-refused-spec =
     mul-contains
     shared-slice-read-contains
     contains-requires
-    returns-2
-    one-way-from-requires
-    returns-3)
+    returns-2)

@@ -14,14 +14,13 @@ use Rattle.searches.specs.Violation.{judge}
 use Rattle.searches.specs.CarryOn.{carryOn}
 use Rattle.searches.specs.Answer.{isPass, refusalOf, number}
 use Rattle.searches.proofs.Ordering.{ordering-fits}
-use Rattle.steps.proofs.Representation.{reached-covers}
 use Rattle.engine.proofs.Calls.{replayable, stopped-fails, ended-passes, along-ended, filled-carried}
 use borrow.Author.Needs.{needs}
 use Rattle.engine.proofs.extend.Statement.{statement}
 use Rattle.engine.proofs.extend.Tie as tie
 
 replay-requires : tie.Need-replay-requires
-replay-requires c κs = let s = c .before .before .before .before .before .before .before .before in replayable (now (s .args .rows)) (now (s .args .output)) (s .args .k) (s .pre .start)
+replay-requires c κs = let s = c .before .before .before .before .before .before .before .before .before in replayable (now (s .args .rows)) (now (s .args .output)) (s .args .k) (s .pre .start)
 
 same-length : tie.Need-same-length
 same-length c = search needs
@@ -29,12 +28,13 @@ same-length c = search needs
 returns : tie.Need-returns
 unfolding refusalOf number
 returns c =
-    let s = c .before .before .before .before .before .before .before .before .before .before .before in
+    let placed = c .before .before in
+    let s = placed .before .before .before .before .before .before .before .before .before .before in
     let a = s .args in
     let k = searchOf (a .kind .0) in
-    let r = c .before .before .replay in
+    let r = placed .replay in
     let e = stopped-fails (now (a .rows)) (now (a .output)) (a .k) (s .pre .start) k (r .result .count) (r .ensures .0) (r .last .1 .1 .1 .1 .1 .0)
-    (r .result .set) (r .result .free) (c .if1 .taken) (r .ensures .1 .1 .1 .1 .0) (r .ensures .1 .0) (r .ensures .1 .1 .0)
+    (r .result .stage .free) (c .if1 .taken) (r .ensures .1 .1 .1 .0) (r .ensures .1 .1 .0)
     in (
       sym (ap (λ (x : Bool). cond {A = Option ℕ} x none (some 12)) e),
       sym (ap (λ (x : Bool). cond x (carryOn k (arcs (now (a .rows))) (length (now (a .rows))) (now (a .tie-break)) (now (a .output)) (a .k) ++ drop (length (now (a .rows))) (now (a .output))) (now (a .output))) e),
@@ -51,10 +51,11 @@ part-fill-end c = search needs
 
 fill-requires : tie.Need-fill-requires
 fill-requires c κs =
-    let s = c .before .before .before .before .before .before .before .before .before .before .before .before .before .before .before in
+    let placed = c .before .before .before .before .before .before .before in
+    let s = placed .before .before .before .before .before .before .before .before .before .before in
     let a = s .args in
     let room = s .pre .room in
-    let r = c .before .before .before .before .before .before .replay in
+    let r = placed .replay in
     let fits = ordering-fits (length (now (a .rows))) (s .pre .start .ordering) in
     record {
       fits = fits;
@@ -62,10 +63,10 @@ fill-requires c κs =
       transpose = s .pre .start .transpose;
       names = s .pre .names;
       along =
-          along-ended (now (a .rows)) (now (a .output)) (a .k) (s .pre .start) (searchOf (a .kind .0)) (r .result .count) (r .ensures .0) (omega arith)
-          (r .ensures .1 .1 .1 .1 .0) (r .ensures .1 .1 .1 .1 .1 .0) (r .ensures .1 .1 .1 .1 .1 .1) (r .ensures .1 .0) (r .ensures .1 .1 .0);
+          along-ended (now (a .rows)) (now (a .output)) (a .k) (s .pre .start) (searchOf (a .kind .0)) (r .result .count) (r .ensures .0) (c .before .before .before .before .before .if1 .left)
+          (r .ensures .1 .1 .1 .0) (r .ensures .1 .1 .1 .1 .0) (r .ensures .1 .1 .1 .1 .1 .0) (r .ensures .1 .0) (r .ensures .1 .1 .0);
       room = omega (arith, room, fits, length-take (length (now (a .output)) - a .k) (drop (a .k) (now (a .output))), length-drop (a .k) (now (a .output)));
-      covers = reached-covers (now (a .rows)) (now (a .output)) (r .result .count) (r .ensures .1 .1 .1 .1 .0) (r .ensures .1 .1 .1 .0);
+      staged = r .ensures .1 .1 .1 .1 .1 .1;
     }
 
 same-length-2 : tie.Need-same-length-2
@@ -74,15 +75,18 @@ same-length-2 c = search needs
 returns-2 : tie.Need-returns-2
 unfolding refusalOf isPass
 returns-2 c =
-    let s = c .before .before .before .before .before .before .before .before .before .before .before .before .before .before .before .before .before .before in
+    let filled = c .before .before in
+    let placed = filled .before .before .before .before .before .before .before .before in
+    let s = placed .before .before .before .before .before .before .before .before .before .before in
     let a = s .args in
     let k = searchOf (a .kind .0) in
-    let r = c .before .before .before .before .before .before .before .before .before .replay in
-    let p = ended-passes (now (a .rows)) (now (a .output)) (a .k) (s .pre .start) k (r .result .count) (r .ensures .0) (omega arith) in
+    let r = placed .replay in
+    let ended = filled .before .before .before .before .before .before .if1 .left in
+    let p = ended-passes (now (a .rows)) (now (a .output)) (a .k) (s .pre .start) k (r .result .count) (r .ensures .0) ended in
     let e : isPass (judge k (arcs (now (a .rows))) (length (now (a .rows))) (now (a .output)) (a .k)) ≡ true = ap isPass p in (
       sym (ap (λ (x : Bool). cond {A = Option ℕ} x none (some 12)) e),
-      filled-carried k (now (a .rows)) (now (a .tie-break)) (now (a .output)) (a .k) (s .pre) (r .result .count) (r .result .free) (r .last .1 .1 .1 .1 .1 .0)
-          (c .before .before .fill .last .1 .1 .1 .1 .0) (r .ensures .0) (omega arith) (r .ensures .1 .1 .1 .1 .0) (r .ensures .1 .1 .0) (c .before .before .fill .ensures)
+      filled-carried k (now (a .rows)) (now (a .tie-break)) (now (a .output)) (a .k) (s .pre) (r .result .count) (r .result .stage .free) (r .last .1 .1 .1 .1 .1 .0)
+          (filled .fill .last .1 .1 .1 .1 .0) (r .ensures .0) ended (r .ensures .1 .1 .1 .0) (r .ensures .1 .1 .0) (filled .fill .ensures)
           ∙ sym (ap (λ (x : Bool). cond x (carryOn k (arcs (now (a .rows))) (length (now (a .rows))) (now (a .tie-break)) (now (a .output)) (a .k) ++ drop (length (now (a .rows))) (now (a .output))) (now (a .output))) e),
     )
 

@@ -11,38 +11,37 @@ use Rattle.engine.proofs.verdict.Statement.{statement}
 use Rattle.engine.proofs.verdict.Tie as tie
 
 replay-requires : tie.Need-replay-requires
-replay-requires c κs = let s = c .before .before .before .before .before .before in replayable (now (s .args .rows)) (now (s .args .ordering)) (length (now (s .args .ordering))) (s .pre)
+replay-requires c κs = let s = c .before .before .before .before .before .before .before in replayable (now (s .args .rows)) (now (s .args .ordering)) (length (now (s .args .ordering))) (s .pre)
 
 first-violation-requires : tie.Need-first-violation-requires
 first-violation-requires c κs =
-    let stopped = c .before .before .before in
-    let s = stopped .before .before .before .before .before .before .before .before in
+    let stopped = c .before .before in
+    let placed = stopped .before in
+    let s = placed .before .before .before .before .before .before .before .before in
     let a = s .args in
-    let k = searchOf (a .kind .0) in
-    let r = stopped .before .replay in
-    fault-there (now (a .rows)) (now (a .ordering)) (length (now (a .ordering))) (s .pre) k (r .result .count) (r .ensures .0) (r .last .1 .1 .1 .1 .1 .0)
-    (r .result .set) (r .result .free) (stopped .if1 .taken) (r .ensures .1 .1 .1 .1 .0) (r .ensures .1 .0) (r .ensures .1 .1 .0) (r .ensures .1 .1 .1 .1 .1 .0)
-    (r .ensures .1 .1 .1 .1 .1 .1)
+    let r = placed .replay in
+    fault-there (now (a .rows)) (now (a .ordering)) (length (now (a .ordering))) (s .pre) (searchOf (a .kind .0)) (r .result .count) (r .ensures .0) (r .last .1 .1 .1 .1 .1 .0)
+    (r .result .stage .free) (stopped .if1 .taken) (r .ensures .1 .1 .1 .0) (r .ensures .1 .1 .0) (r .ensures .1 .1 .1 .1 .1 .1 .weighed)
 
 returns : tie.Need-returns
 returns c =
-    let stopped = c .before .before .before .before in
-    let s = stopped .before .before .before .before .before .before .before .before in
+    let stopped = c .before .before .before in
+    let placed = stopped .before in
+    let s = placed .before .before .before .before .before .before .before .before in
     let a = s .args in
-    let k = searchOf (a .kind .0) in
-    let r = stopped .before .replay in
+    let r = placed .replay in
     c .first-violation .ensures
-    ∙ fault-judged (now (a .rows)) (now (a .ordering)) (length (now (a .ordering))) (s .pre) k (r .result .count) (r .ensures .0)
-    (r .last .1 .1 .1 .1 .1 .0) (r .result .set) (r .result .free) (stopped .if1 .taken) (r .ensures .1 .1 .1 .1 .0) (r .ensures .1 .0) (r .ensures .1 .1 .0)
+    ∙ fault-judged (now (a .rows)) (now (a .ordering)) (length (now (a .ordering))) (s .pre) (searchOf (a .kind .0)) (r .result .count) (r .ensures .0)
+    (r .last .1 .1 .1 .1 .1 .0) (r .result .stage .free) (stopped .if1 .taken) (r .ensures .1 .1 .1 .0) (r .ensures .1 .1 .0)
 
 returns-2 : tie.Need-returns-2
 unfolding verdictOf
 returns-2 c =
-    let s = c .before .before .before .before .before .before .before .before in
+    let placed = c .before in
+    let s = placed .before .before .before .before .before .before .before .before in
     let a = s .args in
-    let k = searchOf (a .kind .0) in
-    let r = c .before .replay in
-    sym (ended-passes (now (a .rows)) (now (a .ordering)) (length (now (a .ordering))) (s .pre) k (r .result .count) (r .ensures .0) (omega arith))
+    let r = placed .replay in
+    sym (ended-passes (now (a .rows)) (now (a .ordering)) (length (now (a .ordering))) (s .pre) (searchOf (a .kind .0)) (r .result .count) (r .ensures .0) (omega arith))
 
 pub verdict-spec : {M : Type 1} → statement M
 verdict-spec = tie.close (tie.spec replay-requires first-violation-requires returns returns-2)

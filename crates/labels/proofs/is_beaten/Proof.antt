@@ -11,18 +11,18 @@ use native.Mathlib.Omega.{arith}
 use borrow.Author.Needs.{needs}
 use Rattle.searches.specs.Kind.{searchOf}
 use Rattle.searches.specs.Comparison.{isAhead}
-use Rattle.labels.specs.Words.{aheadIn, beatenIn}
+use Rattle.labels.specs.Words.{profileOf, aheadIn, beatenIn}
 use Rattle.labels.proofs.Comparison.{ahead-answered}
-use Rattle.labels.proofs.Profiles.{label-of, profile-own}
+use Rattle.labels.proofs.Profiles.{label-of, profile-own, profile-kept}
 use Rattle.labels.proofs.Scan.{Scanned}
 use Rattle.labels.proofs.is_beaten.Statement.{statement}
 use Rattle.labels.proofs.is_beaten.Tie as tie
 
 abbrev Inv-loop : tie.InvT-loop
-Inv-loop kind columns labels smallest largest placed free mine rest₀ rest = Scanned (searchOf (kind .0)) labels free (mine .label) rest
+Inv-loop kind labels weights free mine rest₀ rest = Scanned (searchOf (kind .0)) labels free (mine .label) rest
 
 abbrev μ-loop : tie.MeasureT-loop
-μ-loop kind columns labels smallest largest placed free mine rest₀ rest = rest
+μ-loop kind labels weights free mine rest₀ rest = rest
 
 -- the smallest number of what is left is in it
 found : (c : tie.After-smallest Inv-loop μ-loop) → (c .smallest .result < 64) × T (member (c .before .before .loop .rest) (c .smallest .result))
@@ -31,7 +31,7 @@ found c =
     subst (λ (u : ℕ). (u < 64) × T (member rest u)) (sym (c .smallest .ensures)) (first-member rest (c .before .before .loop .inv .word) (omega arith))
 
 loop-holds : tie.Need-loop-holds Inv-loop μ-loop
-loop-holds c = scan-start _ _ (c .before .fits .free .fits)
+loop-holds c = scan-start _ _ (c .fits .free .fits)
 
 smallest-requires : tie.Need-smallest-requires Inv-loop μ-loop
 smallest-requires c κs = search needs
@@ -40,26 +40,34 @@ cast-u : tie.Need-cast-u Inv-loop μ-loop
 cast-u c = omega (arith, found c .0)
 
 profile-of-requires : tie.Need-profile-of-requires Inv-loop μ-loop
-profile-of-requires c κs = (found c .0, c .before .before .before .before .pre .1)
+profile-of-requires c κs = found c .0
+
+-- what was looked at of it is the profile of its label
+made : (c : tie.After-profile-of Inv-loop μ-loop)
+    → let a = c .before .before .before .before .args in
+    c .profile-of .result ≡ profileOf (searchOf (a .kind .0)) (getD (a .labels .now) (c .before .smallest .result) 0)
+made c =
+    let s = c .before .before .before .before in
+    profile-kept (searchOf (s .args .kind .0)) (s .pre .1) (c .before .smallest .result) (c .profile-of .ensures)
 
 compare-requires : tie.Need-compare-requires Inv-loop μ-loop
 compare-requires c κs =
-    let s = c .before .before .before .before .before in
-    (profile-own (searchOf (s .args .kind .0)) (getD (s .args .labels .now) (c .before .smallest .result) 0) (c .profile-of .ensures), s .pre .0)
+    let s = c .before .before .before .before in
+    (profile-own (searchOf (s .args .kind .0)) (getD (s .args .labels .now) (c .before .smallest .result) 0) (made c), s .pre .0)
 
 tells-ahead-requires : tie.Need-tells-ahead-requires Inv-loop μ-loop
 tells-ahead-requires c κs = search needs
 
 -- whether the smallest number of what is left is ahead
 answered : (c : tie.After-tells-ahead Inv-loop μ-loop)
-    → let a = c .before .before .before .before .before .before .before .args in
+    → let a = c .before .before .before .before .before .before .args in
     c .tells-ahead .result ≡ aheadIn (searchOf (a .kind .0)) (getD (a .labels .now) (c .before .before .before .smallest .result) 0) (a .mine .label)
 answered c =
-    let made = c .before .before in
-    let a = made .before .before .before .before .before .args in
+    let looked = c .before .before in
+    let a = looked .before .before .before .before .args in
     let s = searchOf (a .kind .0) in
-    c .tells-ahead .ensures ∙ ap isAhead (c .before .compare .ensures) ∙ ahead-answered s (made .profile-of .result .label) (a .mine .label)
-    ∙ ap (λ (x : ℕ). aheadIn s x (a .mine .label)) (label-of s (getD (a .labels .now) (made .before .smallest .result) 0) (made .profile-of .ensures))
+    c .tells-ahead .ensures ∙ ap isAhead (c .before .compare .ensures) ∙ ahead-answered s (looked .profile-of .result .label) (a .mine .label)
+    ∙ ap (λ (x : ℕ). aheadIn s x (a .mine .label)) (label-of s (getD (a .labels .now) (looked .before .smallest .result) 0) (made looked))
 
 returns : tie.Need-returns Inv-loop μ-loop
 unfolding beatenIn

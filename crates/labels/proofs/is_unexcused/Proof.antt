@@ -2,7 +2,7 @@
 -- Assumes nothing.
 use mathlib.Core.Path.{sym, ap, _∙_}
 use mathlib.Core.Bool.{not}
-use Prim.Native.Nat.{ℕ, _+_, _<_, _^_}
+use Prim.Native.Nat.{ℕ, suc, _+_, _-_, _<_, _^_}
 use native.Mathlib.Omega.{arith}
 use native.Mathlib.Numerals.{add-one}
 use lib.Dec.{leb}
@@ -11,25 +11,25 @@ use Rattle.bitset.specs.Below.{anyBelow, firstBelow}
 use Rattle.bitset.specs.Word.{member, difference, fromUp}
 use Rattle.searches.specs.Kind.{Search, searchOf}
 use Rattle.searches.specs.Comparison.{isAhead}
+use Rattle.labels.specs.Weights.{weightOf}
 use Rattle.labels.specs.Words.{unexcusedIn}
 use Rattle.labels.proofs.Comparison.{ahead-answered, unexcused-generic, unexcused-mns, unexcused-lexBfs, unexcused-lexDfs, of-kind, searchOf-other}
-use Rattle.labels.proofs.Extremes.{bfs-unexcused, dfs-unexcused}
-use Rattle.labels.proofs.Profiles.{unexcused-mcs}
+use Rattle.labels.proofs.Weights.{bfs-unexcused, dfs-unexcused}
+use Rattle.labels.proofs.Profiles.{weight-of, unexcused-mcs}
 use Rattle.labels.proofs.is_unexcused.Statement.{statement}
 use Rattle.labels.proofs.is_unexcused.Tie as tie
 
-cast-result : tie.Need-cast-result
-cast-result c = search needs
+sub-result : tie.Need-sub-result
+sub-result c = omega (arith, c .before .before .pre .0)
 
 returns : tie.Need-returns
 unfolding searchOf
 returns c =
     let s = c .before .before .before in
     let x = s .args in
-    bfs-unexcused (searchOf (x .kind .0)) (x .c) (x .b) (s .pre .1) (s .pre .2) (x .position .0) (ap searchOf (c .before .if1 .taken)) (s .pre .0)
-
-cast-result-2 : tie.Need-cast-result-2
-cast-result-2 c = search needs
+    let is = c .before .if1 .taken in
+    ap (λ (w : ℕ). leb w (64 - x .position .0)) (weight-of (searchOf (x .kind .0)) (x .b) (s .pre .2) ∙ ap (λ (k : ℕ). weightOf (searchOf k) (x .b .label)) is)
+    ∙ bfs-unexcused (x .position .0) (x .c .label) (x .b .label) (s .pre .0) ∙ ap (λ (k : ℕ). unexcusedIn (searchOf k) (x .position .0) (x .c .label) (x .b .label)) (sym is)
 
 add-result : tie.Need-add-result
 add-result c = search needs
@@ -39,8 +39,10 @@ unfolding searchOf
 returns-2 c =
     let s = c .before .before .before .before .before in
     let x = s .args in
-    ap (λ (p : ℕ). leb (x .b .largest) p) (add-one (x .position .0))
-    ∙ dfs-unexcused (searchOf (x .kind .0)) (x .c) (x .b) (s .pre .1) (s .pre .2) (x .position .0) (ap searchOf (c .before .if2 .taken))
+    let is = c .before .if2 .taken in
+    ap (λ (p : ℕ). leb (x .b .weight) p) (add-one (x .position .0))
+    ∙ ap (λ (w : ℕ). leb w (suc (x .position .0))) (weight-of (searchOf (x .kind .0)) (x .b) (s .pre .2) ∙ ap (λ (k : ℕ). weightOf (searchOf k) (x .b .label)) is)
+    ∙ dfs-unexcused (x .position .0) (x .c .label) (x .b .label) ∙ ap (λ (k : ℕ). unexcusedIn (searchOf k) (x .position .0) (x .c .label) (x .b .label)) (sym is)
 
 without-requires : tie.Need-without-requires
 without-requires c κs = search needs
@@ -120,9 +122,8 @@ pub is-unexcused-spec : {M : Type 1} → statement M
 is-unexcused-spec =
     tie.close
     (tie.spec
-    cast-result
+    sub-result
     returns
-    cast-result-2
     add-result
     returns-2
     without-requires

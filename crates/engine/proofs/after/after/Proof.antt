@@ -69,7 +69,7 @@ slice-aggregate-replay c = sym (columns-there (c .before) .as-many)
 
 replay-requires : tie.Need-replay-requires
 replay-requires c κs =
-    let made = c .before .before .before .before in
+    let made = c .before .before .before .before .before in
     let told = made .before .before in
     let a = told .before .before .before .before .before .args in
     replayable (now (a .rows)) (now (a .ordering)) (length (now (a .ordering)))
@@ -81,19 +81,18 @@ no-moment-requires-2 c κs = search needs
 returns-2 : tie.Need-returns-2
 returns-2 c =
     let r = c .before .before .before in
-    let told = r .before .before .before .before .before .before .before in
+    let told = r .before .before .before .before .before .before .before .before in
     let a = told .before .before .before .before .before .args in
     moment-stopped (a .kind .0) (a .mark) (now (a .rows)) (now (a .ordering)) (accepted told) (r .replay .result .count) (r .replay .ensures .0) (c .no-moment2 .ensures) (c .before .if1 .taken)
 
 returns-3 : tie.Need-returns-3
 returns-3 c =
     let r = c .before .before in
-    let made = r .before .before .before .before .before in
-    let told = made .before .before in
+    let told = r .before .before .before .before .before .before .before .before in
     let a = told .before .before .before .before .before .args in
-    moment-ended (a .kind .0) (a .mark) (now (a .rows)) (now (a .ordering)) (accepted told) (r .replay .result .count) (r .replay .ensures .0) (c .if1 .left)
-    (made .columns-of .ensures) (r .replay .ensures .1 .0) (r .replay .ensures .1 .1 .0) (r .replay .ensures .1 .1 .1 .1 .0) (r .replay .ensures .1 .1 .1 .1 .1 .0)
-    (r .replay .ensures .1 .1 .1 .1 .1 .1)
+    let e = r .replay .ensures in
+    moment-ended (a .kind .0) (a .mark) (now (a .rows)) (now (a .ordering)) (accepted told) (r .replay .result .count) (e .0) (c .if1 .left) (e .1 .1 .0) (e .1 .1 .1 .0)
+    (e .1 .1 .1 .1 .1 .1 .weighed)
 
 pub after-spec : {M : Type 1} → statement M
 after-spec =

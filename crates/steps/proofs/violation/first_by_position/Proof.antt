@@ -12,34 +12,34 @@ use Rattle.steps.proofs.violation.first_by_position.Statement.{statemen
 use Rattle.steps.proofs.violation.first_by_position.Tie as tie
 
 abbrev Inv-loop : tie.InvT-loop
-Inv-loop kind columns ordering k labels smallest largest placed front i mine middle behind p₀ p = Passed k (behindIn (searchOf (kind .0)) labels front (i .0) (mine .label) ordering middle) p × (middle < p)
+Inv-loop kind ordering k labels weights front i mine middle behind p₀ p = Passed k (behindIn (searchOf (kind .0)) labels front (i .0) (mine .label) ordering middle) p × (middle < p)
 
 abbrev μ-loop : tie.MeasureT-loop
-μ-loop kind columns ordering k labels smallest largest placed front i mine middle behind p₀ p = k - p
+μ-loop kind ordering k labels weights front i mine middle behind p₀ p = k - p
 
 add-behind : tie.Need-add-behind Inv-loop μ-loop
 add-behind c = search needs
 
 loop-holds : tie.Need-loop-holds Inv-loop μ-loop
 loop-holds c =
-    let s = c .before .before in
+    let s = c .before in
     let a = s .args in
     (behind-start (searchOf (a .kind .0)) (a .labels .now) (a .front) (a .i .0) (a .mine .label) (a .ordering .now) (a .j .0) (a .k) (s .pre .0 .inside), omega arith)
 
 vertex-at-requires : tie.Need-vertex-at-requires Inv-loop μ-loop
-vertex-at-requires c κs = let s = c .before .before .before .before in omega (arith, s .pre .0 .long)
+vertex-at-requires c κs = let s = c .before .before .before in omega (arith, s .pre .0 .long)
 
 completes-requires : tie.Need-completes-requires Inv-loop μ-loop
-completes-requires c κs = let s = c .before .before .before .before .before in (s .pre .0 .bit, s .pre .1, s .pre .2)
+completes-requires c κs = let s = c .before .before .before .before in (s .pre .0 .bit, s .pre .1, s .pre .2)
 
 -- what was answered of the vertex at p is the test
 answered : (c : tie.After-completes Inv-loop μ-loop)
-    → let a = c .before .before .before .before .before .before .args in
+    → let a = c .before .before .before .before .before .args in
     c .completes .result
     ≡ behindIn (searchOf (a .kind .0)) (a .labels .now) (a .front) (a .i .0) (a .mine .label) (a .ordering .now) (a .j .0) (c .before .before .before .loop .p)
 answered c =
     let l = c .before .before .before in
-    let a = l .before .before .before .args in
+    let a = l .before .before .args in
     behind-same (searchOf (a .kind .0)) (a .labels .now) (a .front) (a .i .0) (a .mine .label) (a .ordering .now) (a .j .0) (l .loop .p) (l .loop .inv .1)
     (c .before .vertex-at .ensures) (c .completes .ensures)
 

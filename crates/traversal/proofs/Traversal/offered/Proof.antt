@@ -1,15 +1,14 @@
 -- `traversal::Traversal::offered` meets its contract: 13, or the set of the open vertices, which are the offered ones.
 -- Assumes nothing.
-use Prim.Native.Nat.{_≤_}
 use mathlib.Core.Path.{_≡_, refl, sym, _∙_, subst}
 use mathlib.Core.Bool.{Bool}
 use lib.Dec.{T}
-use lib.ListN.{length, take}
+use lib.ListN.{length}
 use borrow.Author.Needs.{needs}
 use Rattle.bitset.proofs.Tests.{is-true, not-true, not-false}
 use Rattle.searches.specs.Answer.{refusalOf, number}
 use Rattle.traversal.specs.State.{plan, walk, wellFormed}
-use Rattle.traversal.proofs.WellFormed.{parts, surveyed-passes, surveyed-words, surveyed-columns, surveyed-consistent, well-formed-out, open-offers}
+use Rattle.traversal.proofs.WellFormed.{parts, surveyed-passes, surveyed-words, surveyed-weighed, well-formed-out, open-offers}
 use Rattle.traversal.proofs.Answered.{offered-whole, offered-refused}
 use Rattle.traversal.proofs.Traversal.offered.Statement.{statement}
 use Rattle.traversal.proofs.Traversal.offered.Tie as tie
@@ -42,33 +41,17 @@ sound c =
     let t = c .before .before .before .before .before .before .before .before .args .self in
     subst (λ (b : Bool). T b) (sym (not-false (asked .result .passes) (c .if1 .left)) ∙ surveyed-passes t (asked .ensures)) tt
 
--- the columns of the moment
-columns-there : (c : tie.After-columns)
-    → let t = c .before .before .before .before .before .before .before .before .before .args .self in
-    let columns = c .before .before .before .survey .result .columns in
-    (t .n ≤ length columns) × (t .n ≡ length (take (t .n) columns))
-columns-there c =
-    let past = c .before in
-    let s = past .before .before .before .before .before .before .before .before in
-    surveyed-columns (s .args .self) (arrays s .0) (arrays s .1) (past .before .before .survey .ensures) (sound past)
-
-array-share-prefix-columns : tie.Need-array-share-prefix-columns
-array-share-prefix-columns c = columns-there (c .before .before .before) .0
-
-slice-aggregate-open-below : tie.Need-slice-aggregate-open-below
-slice-aggregate-open-below c = columns-there (c .before .before .before .before) .1
-
 open-below-requires : tie.Need-open-below-requires
 open-below-requires c κs =
-    let past = c .before .before .before .before .before .before .before .before in
+    let past = c .before .before .before .before in
     let s = past .before .before .before .before .before .before .before .before in
     let full = arrays s in
-    (parts (s .args .self) (sound past) .points, surveyed-consistent (s .args .self) (full .0) (full .1) (past .before .before .survey .ensures) (sound past))
+    (parts (s .args .self) (sound past) .points, surveyed-weighed (s .args .self) (full .0) (full .1) (past .before .before .survey .ensures) (sound past))
 
 returns-2 : tie.Need-returns-2
 unfolding refusalOf plan walk
 returns-2 c =
-    let past = c .before .before .before .before .before .before .before .before .before in
+    let past = c .before .before .before .before .before in
     let asked = past .before .before .survey in
     let s = past .before .before .before .before .before .before .before .before in
     let t = s .args .self in
@@ -86,7 +69,5 @@ offered-spec =
     slice-aggregate-survey-2
     survey-requires
     returns
-    array-share-prefix-columns
-    slice-aggregate-open-below
     open-below-requires
     returns-2)

@@ -4,25 +4,25 @@
 use mathlib.Core.Path.{_≡_, sym, ap, ap₂, _∙_, subst}
 use mathlib.Core.Bool.{Bool, not, _||_, Bool·not-not}
 use mathlib.Core.List.{List}
-use Prim.Native.Nat.{ℕ, _≤_, _<_}
+use Prim.Native.Nat.{ℕ, _<_}
 use denote.Ref.{now}
 use native.Mathlib.Omega.{arith}
 use borrow.Author.Needs.{needs}
 use borrow.Author.Tests.{leb-false}
 use lib.Dec.{T, leb}
-use lib.ListN.{length, take, drop, getD}
-use Rattle.bitset.proofs.Tests.{not-false, or-false}
+use lib.ListN.{drop, getD}
+use Rattle.bitset.proofs.Tests.{not-false, or-false, said-true}
 use Rattle.bitset.specs.Word.{member}
 use Rattle.searches.specs.Kind.{searchOf}
 use Rattle.searches.specs.Ordering.{placed}
 use Rattle.searches.specs.Answer.{number}
 use Rattle.checks.proofs.Tried.{Tried, tried-none, tried-one, refused-here, accepted-here}
-use Rattle.labels.specs.Words.{Consistent, comparedIn}
-use Rattle.labels.proofs.Profiles.{label-of, profile-own}
+use Rattle.labels.specs.Words.{Weighed, profileOf, comparedIn}
+use Rattle.labels.proofs.Profiles.{label-of, profile-own, profile-kept}
 use Rattle.traversal.specs.declared.Traversal.{Traversal}
 use Rattle.traversal.specs.State.{state, plan, walk, wellFormed, WellFormed}
 use Rattle.traversal.specs.Compare.{compareTests, told, reportOf}
-use Rattle.traversal.proofs.WellFormed.{surveyed-passes, surveyed-words, surveyed-columns, surveyed-consistent, well-formed-out, free-offers, compared-stance}
+use Rattle.traversal.proofs.WellFormed.{surveyed-passes, surveyed-words, surveyed-weighed, well-formed-out, free-offers, compared-stance}
 use Rattle.traversal.proofs.Telling.{report-refused, report-told}
 use Rattle.traversal.proofs.comparison.compare.Statement.{statement}
 use Rattle.traversal.proofs.comparison.compare.Tie as tie
@@ -56,17 +56,10 @@ sound c = subst (λ (b : Bool). T b) (sym (not-false (made (c .before) .survey .
 formed : (c : tie.Else1) → WellFormed (asked (begun (c .before)))
 formed c = let s = begun (c .before) in well-formed-out (asked s) (s .pre .0) (s .pre .1) (sound c)
 
--- the columns of the moment
-columns-there : (c : tie.Else1)
-    → let n = begun (c .before) .args .n in
-    let columns = made (c .before) .survey .result .columns in
-    (n ≤ length columns) × (n ≡ length (take n columns))
-columns-there c = let s = begun (c .before) in surveyed-columns (asked s) (s .pre .0) (s .pre .1) (made (c .before) .survey .ensures) (sound c)
-
-consistent : (c : tie.Else1)
+weighed : (c : tie.Else1)
     → let m = made (c .before) .survey .result in
-    Consistent (take (begun (c .before) .args .n) (m .columns)) (m .labels) (m .smallest) (m .largest) (m .placed)
-consistent c = let s = begun (c .before) in surveyed-consistent (asked s) (s .pre .0) (s .pre .1) (made (c .before) .survey .ensures) (sound c)
+    Weighed (searchOf (begun (c .before) .args .kind .0)) (m .labels) (m .weights)
+weighed c = let s = begun (c .before) in surveyed-weighed (asked s) (s .pre .0) (s .pre .1) (made (c .before) .survey .ensures) (sound c)
 
 -- ---- and once 8 does not
 
@@ -149,54 +142,69 @@ returns-3 c =
 
 -- ---- what is compared
 
-array-share-prefix-columns : tie.Need-array-share-prefix-columns
-array-share-prefix-columns c = columns-there (c .before .before .before .before .before .before) .0
-
-slice-aggregate-profile-of : tie.Need-slice-aggregate-profile-of
-slice-aggregate-profile-of c = columns-there (c .before .before .before .before .before .before .before) .1
+-- both are unplaced
+unplaced : (c : tie.Else3)
+    → let free = made (c .before .before .before) .survey .result .free in
+    let a = begun (c .before .before .before) .args in
+    T (member free (a .first .0)) × T (member free (a .second .0))
+unplaced c =
+    let second = c .before .before .before .before in
+    let free = made (c .before .before .before) .survey .result .free in
+    let a = begun (c .before .before .before) .args in
+    let both = or-false (not (second .before .contains .result)) (not (second .contains2 .result)) (c .if3 .left) in
+    (said-true (member free (a .first .0)) (second .before .contains .ensures) (not-false _ (both .0)), said-true (member free (a .second .0)) (second .contains2 .ensures) (not-false _ (both .1)))
 
 profile-of-requires : tie.Need-profile-of-requires
-profile-of-requires c κs =
-    let past = c .before .before .before .before .before .before .before .before .before in
-    (below-64 past .0, consistent (past .before))
-
-array-share-prefix-columns-2 : tie.Need-array-share-prefix-columns-2
-array-share-prefix-columns-2 c = columns-there (c .before .before .before .before .before .before .before .before .before .before .before) .0
-
-slice-aggregate-profile-of-2 : tie.Need-slice-aggregate-profile-of-2
-slice-aggregate-profile-of-2 c = columns-there (c .before .before .before .before .before .before .before .before .before .before .before .before) .1
+profile-of-requires c κs = below-64 (c .before .before .before .before .before) .0
 
 profile-of-requires-2 : tie.Need-profile-of-requires-2
-profile-of-requires-2 c κs =
-    let past = c .before .before .before .before .before .before .before .before .before .before .before .before .before .before in
-    (below-64 past .1, consistent (past .before))
+profile-of-requires-2 c κs = below-64 (c .before .before .before .before .before .before .before .before) .1
+
+-- what was looked at of the two are the profiles of their labels
+first-made : (c : tie.After-profile-of)
+    → let past = c .before .before .before .before .before .before .before in
+    let a = begun (past .before) .args in
+    c .profile-of .result ≡ profileOf (searchOf (a .kind .0)) (getD (made (past .before) .survey .result .labels) (a .first .0) 0)
+first-made c =
+    let past = c .before .before .before .before .before .before .before in
+    let a = begun (past .before) .args in
+    profile-kept (searchOf (a .kind .0)) (weighed past) (a .first .0) (c .profile-of .ensures)
+
+second-made : (c : tie.After-profile-of2)
+    → let past = c .before .before .before .before .before .before .before .before .before .before in
+    let a = begun (past .before) .args in
+    c .profile-of2 .result ≡ profileOf (searchOf (a .kind .0)) (getD (made (past .before) .survey .result .labels) (a .second .0) 0)
+second-made c =
+    let past = c .before .before .before .before .before .before .before .before .before .before in
+    let a = begun (past .before) .args in
+    profile-kept (searchOf (a .kind .0)) (weighed past) (a .second .0) (c .profile-of2 .ensures)
 
 compare-requires : tie.Need-compare-requires
 compare-requires c κs =
-    let first = c .before .before .before .before .before in
-    let past = first .before .before .before .before .before .before .before .before .before .before in
-    let a = begun (past .before .before) .args in
-    let labels = made (past .before .before) .survey .result .labels in
+    let first = c .before .before .before in
+    let past = first .before .before .before .before .before .before .before in
+    let a = begun (past .before) .args in
+    let labels = made (past .before) .survey .result .labels in
     let k = searchOf (a .kind .0) in
-    (profile-own k (getD labels (a .first .0) 0) (first .profile-of .ensures), profile-own k (getD labels (a .second .0) 0) (c .profile-of2 .ensures))
+    (profile-own k (getD labels (a .first .0) 0) (first-made first), profile-own k (getD labels (a .second .0) 0) (second-made c))
 
 returns-4 : tie.Need-returns-4
 unfolding compareTests reportOf plan walk
 returns-4 c =
     let second = c .before in
-    let first = second .before .before .before .before .before in
-    let last = first .before .before .before .before .before .before .before .before .before in
-    let past = last .before in
-    let s = begun (past .before .before) in
+    let first = second .before .before .before in
+    let last = first .before .before .before .before .before in
+    let past = last .before .before in
+    let s = begun (past .before) in
     let a = s .args in
-    let moment = made (past .before .before) .survey in
+    let moment = made (past .before) .survey in
     let labels = moment .result .labels in
     let k = searchOf (a .kind .0) in
-    let words = surveyed-words (asked s) (s .pre .0) (s .pre .1) (moment .ensures) (sound (past .before)) in
+    let words = surveyed-words (asked s) (s .pre .0) (s .pre .1) (moment .ensures) (sound past) in
     ap told
     (c .compare .ensures
-    ∙ ap₂ (λ (x y : ℕ). comparedIn k x y) (label-of k (getD labels (a .first .0) 0) (first .profile-of .ensures)) (label-of k (getD labels (a .second .0) 0) (second .profile-of2 .ensures))
-    ∙ compared-stance (asked s) (s .pre .0) (s .pre .1) (formed (past .before)) (words .0) (words .1) (a .first .0) (a .second .0) (inside past .0) (inside past .1))
+    ∙ ap₂ (λ (x y : ℕ). comparedIn k x y) (label-of k (getD labels (a .first .0) 0) (first-made first)) (label-of k (getD labels (a .second .0) 0) (second-made second))
+    ∙ compared-stance (asked s) (s .pre .0) (s .pre .1) (formed past) (words .0) (words .1) (a .first .0) (a .second .0) (unplaced last .0) (unplaced last .1))
     ∙ report-told (asked s) (a .first .0) (a .second .0) (accepted-here (past-3 last))
 
 pub compare-spec : {M : Type 1} → statement M
@@ -211,11 +219,7 @@ compare-spec =
     returns
     returns-2
     returns-3
-    array-share-prefix-columns
-    slice-aggregate-profile-of
     profile-of-requires
-    array-share-prefix-columns-2
-    slice-aggregate-profile-of-2
     profile-of-requires-2
     compare-requires
     returns-4)

@@ -13,20 +13,20 @@ use Rattle.traversal.proofs.offers.open_below.Statement.{statement}
 use Rattle.traversal.proofs.offers.open_below.Tie as tie
 
 abbrev Inv-loop : tie.InvT-loop
-Inv-loop kind columns labels smallest largest placed free n set₀ v₀ set v = (v ≤ n) × (set ≡ setBelow v (openIn (searchOf (kind .0)) labels free))
+Inv-loop kind labels weights free n set₀ v₀ set v = (v ≤ n) × (set ≡ setBelow v (openIn (searchOf (kind .0)) labels free))
 
 abbrev μ-loop : tie.MeasureT-loop
-μ-loop kind columns labels smallest largest placed free n set₀ v₀ set v = n - v
+μ-loop kind labels weights free n set₀ v₀ set v = n - v
 
 loop-holds : tie.Need-loop-holds Inv-loop μ-loop
 unfolding setBelow
 loop-holds c = (omega arith, refl)
 
 cast-number : tie.Need-cast-number Inv-loop μ-loop
-cast-number c = omega (arith, c .before .before .before .pre .0)
+cast-number c = omega (arith, c .before .before .pre .0)
 
 is-open-requires : tie.Need-is-open-requires Inv-loop μ-loop
-is-open-requires c κs = c .before .before .before .pre .1
+is-open-requires c κs = c .before .before .pre .1
 
 insert-requires : tie.Need-insert-requires Inv-loop μ-loop
 insert-requires c κs = search needs
@@ -41,7 +41,7 @@ loop-again : tie.Need-loop-again Inv-loop μ-loop
 loop-again c =
     let asked = c .before in
     let l = asked .before .before in
-    let test = openIn (searchOf (l .before .before .args .kind .0)) (l .before .before .args .labels .now) (l .before .before .args .free) in (
+    let test = openIn (searchOf (l .before .args .kind .0)) (l .before .args .labels .now) (l .before .args .free) in (
       omega arith,
       ⊎-elim
           (λ x. x .2 ∙ x .1 .ensures ∙ set-more test (l .loop .inv .1) (sym (asked .is-open .ensures) ∙ x .0 .taken))
@@ -51,7 +51,7 @@ loop-again c =
 returns : tie.Need-returns Inv-loop μ-loop
 returns c =
     let l = c .before in
-    let a = l .before .before .args in
+    let a = l .before .args in
     let all : l .loop .v ≡ a .n = omega (arith, l .loop .inv .0) in
     l .loop .inv .1 ∙ ap (λ (m : ℕ). setBelow m (openIn (searchOf (a .kind .0)) (a .labels .now) (a .free))) all
 

@@ -3,20 +3,20 @@
 use mathlib.Core.Path.{_≡_, sym, ap, _∙_, subst}
 use mathlib.Core.Bool.{Bool, not}
 use mathlib.Core.List.{List}
-use Prim.Native.Nat.{ℕ, _≤_}
+use Prim.Native.Nat.{ℕ}
 use denote.Ref.{now}
 use native.Mathlib.Omega.{arith}
 use borrow.Author.Needs.{needs}
 use borrow.Author.Tests.{eq-eqb, ne-eqb, le-leb, lt-leb}
 use lib.Dec.{T}
-use lib.ListN.{length, take, drop}
+use lib.ListN.{drop}
 use Rattle.bitset.proofs.Tests.{not-true, not-false}
 use Rattle.searches.specs.Ordering.{placed}
 use Rattle.searches.specs.Answer.{number, refusalOf}
 use Rattle.checks.proofs.Tried.{Tried, tried-none, tried-one, refused-here, accepted-here}
 use Rattle.traversal.specs.declared.Traversal.{Traversal}
 use Rattle.traversal.specs.State.{state, plan, walk, wellFormed, WellFormed, offers, placeTests, placeAnswer}
-use Rattle.traversal.proofs.WellFormed.{surveyed-passes, surveyed-words, surveyed-columns, surveyed-consistent, well-formed-out, open-offers, free-offers}
+use Rattle.traversal.proofs.WellFormed.{surveyed-passes, surveyed-words, surveyed-weighed, well-formed-out, open-offers, free-offers}
 use Rattle.traversal.proofs.refusals.place_refusal.Statement.{statement}
 use Rattle.traversal.proofs.refusals.place_refusal.Tie as tie
 
@@ -55,11 +55,11 @@ unplaced c =
     sym (c .contains .ensures ∙ free-offers (asked s) (s .pre .0) (s .pre .1) (formed first) (words .0) (words .1) (s .args .vertex .0) (omega arith))
 
 may-be-next : (c : tie.After-is-open)
-    → let s = c .before .before .before .before .before .before .before .before .before .before .before .before .before .before .before .before .before .before .before in
+    → let s = c .before .before .before .before .before .before .before .before .before .before .before .before .before .before .before in
     offers (asked s) (s .args .vertex .0) ≡ c .is-open .result
 unfolding plan walk
 may-be-next c =
-    let first = c .before .before .before .before .before .before .before .before .before .before .before .before .before in
+    let first = c .before .before .before .before .before .before .before .before .before in
     let s = first .before .before .before .before .before .before in
     let words = surveyed-words (asked s) (s .pre .0) (s .pre .1) (first .before .before .before .survey .ensures) (sound first) in
     sym (c .is-open .ensures ∙ open-offers (asked s) (s .pre .0) (s .pre .1) (formed first) (words .0) (words .1) (s .args .vertex .0))
@@ -82,9 +82,9 @@ past-4 : (c : tie.Else4) → Past 4 (c .before .before .before .before .before .
 unfolding placeTests
 past-4 c = tried-one (past-3 (c .before .before)) (not-true _ (unplaced (c .before) ∙ not-false _ (c .if4 .left)))
 
-past-5 : (c : tie.Else5) → Past 5 (c .before .before .before .before .before .before .before .before .before .before .before .before .before .before .before .before .before .before .before .before)
+past-5 : (c : tie.Else5) → Past 5 (c .before .before .before .before .before .before .before .before .before .before .before .before .before .before .before .before)
 unfolding placeTests
-past-5 c = tried-one (past-4 (c .before .before .before .before .before .before .before .before .before .before)) (ap not (may-be-next (c .before)) ∙ c .if5 .left)
+past-5 c = tried-one (past-4 (c .before .before .before .before .before .before)) (ap not (may-be-next (c .before)) ∙ c .if5 .left)
 
 survey-requires : tie.Need-survey-requires
 survey-requires c κs = search needs
@@ -111,31 +111,15 @@ returns-4 : tie.Need-returns-4
 unfolding placeAnswer placeTests number refusalOf
 returns-4 c = refused-here (past-3 (c .before .before)) (not-false _ (unplaced (c .before) ∙ not-true _ (c .if4 .taken)))
 
--- the columns of the moment
-columns-there : (c : tie.After-columns)
-    → let s = c .before .before .before .before .before .before .before .before .before .before .before in
-    let columns = c .before .before .before .before .before .before .before .before .survey .result .columns in
-    (s .args .n ≤ length columns) × (s .args .n ≡ length (take (s .args .n) columns))
-columns-there c =
-    let first = c .before .before .before .before .before in
-    let s = first .before .before .before .before .before .before in
-    surveyed-columns (asked s) (s .pre .0) (s .pre .1) (first .before .before .before .survey .ensures) (sound first)
-
-array-share-prefix-columns : tie.Need-array-share-prefix-columns
-array-share-prefix-columns c = columns-there (c .before .before .before) .0
-
-slice-aggregate-is-open : tie.Need-slice-aggregate-is-open
-slice-aggregate-is-open c = columns-there (c .before .before .before .before) .1
-
 is-open-requires : tie.Need-is-open-requires
 is-open-requires c κs =
-    let first = c .before .before .before .before .before .before .before .before .before .before .before .before in
+    let first = c .before .before .before .before .before .before .before .before in
     let s = first .before .before .before .before .before .before in
-    surveyed-consistent (asked s) (s .pre .0) (s .pre .1) (first .before .before .before .survey .ensures) (sound first)
+    surveyed-weighed (asked s) (s .pre .0) (s .pre .1) (first .before .before .before .survey .ensures) (sound first)
 
 returns-5 : tie.Need-returns-5
 unfolding placeAnswer placeTests number refusalOf
-returns-5 c = refused-here (past-4 (c .before .before .before .before .before .before .before .before .before .before)) (ap not (may-be-next (c .before)) ∙ c .if5 .taken)
+returns-5 c = refused-here (past-4 (c .before .before .before .before .before .before)) (ap not (may-be-next (c .before)) ∙ c .if5 .taken)
 
 returns-6 : tie.Need-returns-6
 unfolding placeAnswer placeTests number refusalOf
@@ -152,8 +136,6 @@ place-refusal-spec =
     returns-3
     contains-requires
     returns-4
-    array-share-prefix-columns
-    slice-aggregate-is-open
     is-open-requires
     returns-5
     returns-6)

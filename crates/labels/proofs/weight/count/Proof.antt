@@ -1,4 +1,4 @@
--- `labels::profile::count` meets its contract.
+-- `labels::weight::count` meets its contract.
 -- Assumes nothing.
 use Prim.Native.Nat.{ℕ}
 use mathlib.Core.Path.{sym, ap, _∙_}
@@ -7,9 +7,9 @@ use lib.ListN.{List·getD-eq-default}
 use borrow.Author.Needs.{needs}
 use Rattle.bitset.specs.Below.{countBelow}
 use Rattle.bitset.specs.Word.{member, common}
-use Rattle.labels.specs.Words.{tally}
-use Rattle.labels.proofs.profile.count.Statement.{statement}
-use Rattle.labels.proofs.profile.count.Tie as tie
+use Rattle.labels.specs.Weights.{tally}
+use Rattle.labels.proofs.weight.count.Statement.{statement}
+use Rattle.labels.proofs.weight.count.Tie as tie
 
 cast-v : tie.Need-cast-v
 cast-v c = search needs

@@ -1,0 +1,145 @@
+-- `steps::place::place` meets its contract.
+-- Assumes nothing.
+use Prim.Native.Nat.{ℕ}
+use mathlib.Core.Path.{_≡_, sym, ap, ap₂, _∙_, subst}
+use borrow.Author.Needs.{needs}
+use lib.ListN.{getD}
+use denote.Ref.{now}
+use Rattle.bitset.specs.Word as word
+use Rattle.bitset.specs.Word.{common}
+use Rattle.labels.specs.Weights.{Consistent}
+use Rattle.labels.specs.Words.{spreadTo, smallestTo, largestTo}
+use Rattle.steps.specs.Steps.{grownBy}
+use Rattle.steps.proofs.Placing.{placed-narrows, placed-covers, placed-reaches}
+use Rattle.steps.proofs.place.place.Statement.{statement}
+use Rattle.steps.proofs.place.place.Tie as tie
+
+cast-number : tie.Need-cast-number
+cast-number c = search needs
+
+row-of-requires : tie.Need-row-of-requires
+row-of-requires c κs = tt
+
+insert-requires : tie.Need-insert-requires
+insert-requires c κs = tt
+
+remove-requires : tie.Need-remove-requires
+remove-requires c κs = tt
+
+union-requires : tie.Need-union-requires
+union-requires c κs = tt
+
+common-requires : tie.Need-common-requires
+common-requires c κs = tt
+
+remove-requires-2 : tie.Need-remove-requires-2
+remove-requires-2 c κs = tt
+
+-- the unplaced ones that the vertex leads to
+grown : (c : tie.After-common)
+    → let a = c .before .before .before .before .before .before .before .before .args in
+    c .common .result ≡ grownBy (now (a .rows)) (a .stage .free) (a .vertex .0)
+unfolding grownBy
+grown c =
+    let r = c .before .before in
+    c .common .ensures ∙ ap₂ (λ (x y : ℕ). common x y) (r .before .before .row-of .ensures) (r .remove .ensures)
+
+spread-requires : tie.Need-spread-requires
+spread-requires c κs =
+    let cut = c .before .before .before .before in
+    let front = cut .before in
+    let removed = front .before .before in
+    let inserted = removed .before in
+    let s = inserted .before .before .before .before .before in
+    let a = s .args in
+    let p = a .position .0 in (
+      s .pre .bit,
+      s .pre .staged .weighed,
+      subst (λ (x : ℕ). Consistent (now (a .columns)) x (front .common .result) (spreadTo (front .common .result) p (now (a .labels))) (smallestTo (front .common .result) p (now (a .smallest))) (largestTo (front .common .result) p (now (a .largest)))) (sym (inserted .insert .ensures))
+          (subst (λ (x : ℕ). Consistent (now (a .columns)) (word.inserted (a .stage .set) (a .vertex .0)) x (spreadTo x p (now (a .labels))) (smallestTo x p (now (a .smallest))) (largestTo x p (now (a .largest)))) (sym (grown front)) (s .pre .consistent)),
+    )
+
+-- the labels with the position put in
+spread-is : (c : tie.After-spread)
+    → let a = c .before .before .before .before .before .before .before .before .before .before .before .before .before .before .args in
+    (c .spread .last .1 .1 .1 .0 ≡ spreadTo (grownBy (now (a .rows)) (a .stage .free) (a .vertex .0)) (a .position .0) (now (a .labels)))
+    × (c .spread .last .1 .1 .1 .1 .0 ≡ smallestTo (grownBy (now (a .rows)) (a .stage .free) (a .vertex .0)) (a .position .0) (now (a .smallest)))
+    × (c .spread .last .1 .1 .1 .1 .1 .0 ≡ largestTo (grownBy (now (a .rows)) (a .stage .free) (a .vertex .0)) (a .position .0) (now (a .largest)))
+spread-is c =
+    let front = c .before .before .before .before .before .before in
+    let a = front .before .before .before .before .before .before .before .before .args in
+    let p = a .position .0 in (
+      c .spread .ensures .0 ∙ ap (λ (x : ℕ). spreadTo x p (now (a .labels))) (grown front),
+      c .spread .ensures .1 .0 ∙ ap (λ (x : ℕ). smallestTo x p (now (a .smallest))) (grown front),
+      c .spread .ensures .1 .1 .0 ∙ ap (λ (x : ℕ). largestTo x p (now (a .largest))) (grown front),
+    )
+
+-- whom the vertex leads to is reached
+reached-is : (c : tie.After-union)
+    → let a = c .before .before .before .before .before .before .before .args in
+    c .union .result ≡ word.united (a .stage .reached) (getD (now (a .rows)) (a .vertex .0) 0)
+reached-is c =
+    let row = c .before .before .before in
+    let a = row .before .before .before .before .args in
+    c .union .ensures ∙ ap (λ (x : ℕ). word.united (a .stage .reached) x) (row .row-of .ensures)
+
+offered-after-requires : tie.Need-offered-after-requires
+offered-after-requires c κs =
+    let spread = c .before .before in
+    let cut = spread .before .before .before .before .before in
+    let front = cut .before in
+    let met = front .before in
+    let removed = met .before in
+    let s = removed .before .before .before .before .before .before in
+    let at-labels = spread-is spread .0 in (
+      placed-narrows (s .pre) at-labels (removed .remove .ensures) (cut .remove2 .ensures) (grown front),
+      placed-covers (s .pre) at-labels (reached-is met),
+      placed-reaches (s .pre) at-labels (reached-is met) (removed .remove .ensures),
+      spread .spread .ensures .1 .1 .1,
+    )
+
+returns : tie.Need-returns
+returns c =
+    let spread = c .before .before .before in
+    let cut = spread .before .before .before .before .before in
+    let front = cut .before in
+    let met = front .before in
+    let removed = met .before in
+    let inserted = removed .before in
+    let s = inserted .before .before .before .before .before in
+    let is = spread-is spread in (
+      inserted .insert .ensures,
+      (
+        removed .remove .ensures,
+        (
+          is .0,
+          (
+            is .1,
+            (
+              is .2,
+              record {
+                weighed = spread .spread .ensures .1 .1 .1;
+                offers = c .offered-after .ensures;
+                covers = placed-covers (s .pre) (is .0) (reached-is met);
+                reaches = placed-reaches (s .pre) (is .0) (reached-is met) (removed .remove .ensures);
+              },
+            ),
+          ),
+        ),
+      ),
+    )
+
+pub place-spec : {M : Type 1} → statement M
+place-spec =
+    tie.close
+    (tie.spec
+    cast-number
+    row-of-requires
+    insert-requires
+    remove-requires
+    union-requires
+    common-requires
+    remove-requires-2
+    spread-requires
+    offered-after-requires
+    returns)
