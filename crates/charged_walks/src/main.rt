@@ -7,156 +7,154 @@
 mod lines;
 mod products;
 
-use crate::lines::play;
+use crate::lines::play_on;
 use searches::Mark;
+ghost use Prim.Native.Nat.{_≤_};
+
+// Plans and walks are written as digits (`rows_of` and `places_of` of `notation`). Beside a plan stands how many points it has, and beside a walk or a
+// list of minutes how many of its places or entries count.
 
 // The links 0-1, 0-2, 1-3.
-const TREE: [u64; 4] = [6, 9, 1, 2];
+const TREE: u64 = 0x06090102_00000000;
 
 // The links 0-1, 1-2, 2-3, 0-3.
-const RING: [u64; 4] = [10, 5, 10, 5];
+const RING: u64 = 0x0a050a05_00000000;
 
 // The links 0-1, 0-2, 1-2, 1-3, and a point by itself.
-const PIECES: [u64; 5] = [6, 13, 3, 2, 0];
+const PIECES: u64 = 0x060d030200_000000;
 
 // One-way: 0 leads to 1 and 2, 1 to 3.
-const DOWN: [u64; 4] = [6, 8, 0, 0];
+const DOWN: u64 = 0x06080000_00000000;
 
 // One-way: 0 leads to 1, 1 to 2, 2 to 3, 3 to 0.
-const ROUND: [u64; 4] = [2, 4, 8, 1];
+const ROUND: u64 = 0x02040801_00000000;
 
 // Four points, the last two either way round, and the five of `PIECES`, the one by itself in front.
-const IN_TURN: [u8; 4] = [0, 1, 2, 3];
+const IN_TURN: u64 = 0x0123_0000;
 
-const TURNED: [u8; 4] = [0, 1, 3, 2];
+const TURNED: u64 = 0x0132_0000;
 
-const RESTARTED: [u8; 5] = [4, 3, 1, 0, 2];
+const RESTARTED: u64 = 0x43102_000;
 
 // In `DOWN` 1 leads to 3 and 0 to 1: the first two steps go against the links.
-const UPSTREAM: [u8; 4] = [3, 1, 0, 2];
+const UPSTREAM: u64 = 0x3102_0000;
 
 // On the ring this fails every search, and its first point alone passes.
-const FAILING: [u8; 2] = [0, 2];
+const FAILING: u64 = 0x02_000000;
 
-const MINUTES: [u16; 4] = [10, 20, 5, 30];
+const MINUTES: [u16; 5] = [10, 20, 5, 30, 0];
 
 const LONG: [u16; 5] = [999, 0, 1, 998, 7];
 
-// A walk at several rates, among them the largest, and one above it.
-fn rated(kind: u8, mark: Mark, rows: &[u64], ordering: &[u8], minutes: &[u16]) {
-    play(kind, mark, rows, ordering, minutes, 0);
-    play(kind, mark, rows, ordering, minutes, 29);
-    play(kind, mark, rows, ordering, minutes, 30);
-    play(kind, mark, rows, ordering, minutes, 31);
-    play(kind, mark, rows, ordering, minutes, 4530);
-    play(kind, mark, rows, ordering, minutes, 99999);
-    play(kind, mark, rows, ordering, minutes, 100000);
+// A walk at several rates, among them the largest, and one above it. There are as many minutes as points.
+fn rated(kind: u8, mark: Mark, plan: u64, n: usize, walk: u64, k: usize, minutes: [u16; 5])
+    requires { ⌜ (n ≤ 5) × (k ≤ 64) ⌝ }
+{
+    play_on(kind, mark, plan, n, walk, k, minutes, n, 0);
+    play_on(kind, mark, plan, n, walk, k, minutes, n, 29);
+    play_on(kind, mark, plan, n, walk, k, minutes, n, 30);
+    play_on(kind, mark, plan, n, walk, k, minutes, n, 31);
+    play_on(kind, mark, plan, n, walk, k, minutes, n, 4530);
+    play_on(kind, mark, plan, n, walk, k, minutes, n, 99999);
+    play_on(kind, mark, plan, n, walk, k, minutes, n, 100000);
+}
+
+// On a plan of four points.
+fn on_four(kind: u8, mark: Mark, plan: u64, walk: u64, k: usize)
+    requires { ⌜ k ≤ 64 ⌝ }
+{
+    rated(kind, mark, plan, 4, walk, k, MINUTES);
+}
+
+fn on_pieces(kind: u8, mark: Mark, walk: u64, k: usize)
+    requires { ⌜ k ≤ 64 ⌝ }
+{
+    rated(kind, mark, PIECES, 5, walk, k, LONG);
 }
 
 // On plans whose links all go both ways.
 fn both_ways(kind: u8, mark: Mark) {
-    let tree = TREE;
-    let ring = RING;
-    let pieces = PIECES;
-    let in_turn = IN_TURN;
-    let turned = TURNED;
-    let upstream = UPSTREAM;
-    let failing = FAILING;
-    let restarted = RESTARTED;
-    let minutes = MINUTES;
-    let long = LONG;
-    rated(kind, mark, &tree, &in_turn, &minutes);
-    rated(kind, mark, &tree, &turned, &minutes);
-    rated(kind, mark, &tree, &upstream, &minutes);
-    rated(kind, mark, &ring, &in_turn, &minutes);
-    rated(kind, mark, &ring, &turned, &minutes);
-    rated(kind, mark, &ring, &turned[..3], &minutes);
-    rated(kind, mark, &ring, &failing, &minutes);
-    rated(kind, mark, &pieces, &restarted, &long);
-    rated(kind, mark, &pieces, &in_turn[..1], &long);
-    rated(kind, mark, &pieces, &in_turn[..0], &long);
+    on_four(kind, mark, TREE, IN_TURN, 4);
+    on_four(kind, mark, TREE, TURNED, 4);
+    on_four(kind, mark, TREE, UPSTREAM, 4);
+    on_four(kind, mark, RING, IN_TURN, 4);
+    on_four(kind, mark, RING, TURNED, 4);
+    on_four(kind, mark, RING, TURNED, 3);
+    on_four(kind, mark, RING, FAILING, 2);
+    on_pieces(kind, mark, RESTARTED, 5);
+    on_pieces(kind, mark, IN_TURN, 1);
+    on_pieces(kind, mark, IN_TURN, 0);
 }
 
-// On plans whose links all go one way, and on the first of them as if it were two-way.
-fn one_way(kind: u8) {
-    let down = DOWN;
-    let round = ROUND;
-    let in_turn = IN_TURN;
-    let turned = TURNED;
-    let upstream = UPSTREAM;
-    let minutes = MINUTES;
-    rated(kind, Mark::OneWay, &down, &in_turn, &minutes);
-    rated(kind, Mark::OneWay, &down, &turned, &minutes);
-    rated(kind, Mark::OneWay, &down, &upstream, &minutes);
-    rated(kind, Mark::OneWay, &round, &in_turn, &minutes);
-    rated(kind, Mark::OneWay, &round, &turned, &minutes);
-    rated(kind, Mark::TwoWay, &down, &upstream, &minutes);
+// On plans whose links all go one way.
+fn one_way(kind: u8, mark: Mark) {
+    on_four(kind, mark, DOWN, IN_TURN, 4);
+    on_four(kind, mark, DOWN, TURNED, 4);
+    on_four(kind, mark, DOWN, UPSTREAM, 4);
+    on_four(kind, mark, ROUND, IN_TURN, 4);
+    on_four(kind, mark, ROUND, TURNED, 4);
 }
 
+// The last one is a one-way plan as if it were two-way.
 fn played(kind: u8) {
     both_ways(kind, Mark::TwoWay);
     both_ways(kind, Mark::OneWay);
-    one_way(kind);
+    one_way(kind, Mark::OneWay);
+    on_four(kind, Mark::TwoWay, DOWN, UPSTREAM, 4);
 }
 
-// A walk on the ring with another first row, with a list of minutes that is too short and has entries above 999, and with a rate that is too high.
-fn wrong(mark: Mark, first_row: u64, ordering: &[u8]) {
-    let mut rows = RING;
-    rows[0] = first_row;
+// A walk over four points, with a list of minutes that is too short and has entries above 999, and with a rate that is too high.
+fn wrong(mark: Mark, plan: u64, walk: u64, k: usize)
+    requires { ⌜ k ≤ 64 ⌝ }
+{
+    play_on(6, mark, plan, 4, walk, k, [1000; 5], 3, 100000);
+}
+
+// More points than there can be, and everything else wrong as well.
+fn crowded(kind: u8, mark: Mark) {
+    let rows = [1u64; 65];
+    let ordering = [99u8; 66];
     let few = [1000u16; 3];
-    play(6, mark, &rows, ordering, &few, 100000);
+    lines::play(kind, mark, &rows, &ordering, &few, 100000);
 }
 
-// Refused by judge's own tests: each call is given everything wrong that is tried after what it is refused for. With 2 for its first row the ring has
-// a link that goes one way only: refused with 5 if two-way, and if one-way with what is tried next.
+// Refused by judge's own tests: each call is given everything wrong that is tried after what it is refused for. The plans are the ring with another
+// first row. Where that is 2 the ring has a link that goes one way only: refused with 5 if two-way, and if one-way with what is tried next.
 fn refused_walks(mark: Mark) {
-    let crowd = [1u64; 65];
-    let crowded = [99u8; 66];
-    let few = [1000u16; 3];
-    let long = [9u8; 5];
-    let twice = [0u8, 1u8, 0u8];
-    play(7, mark, &crowd, &crowded, &few, 100000);
-    play(6, mark, &crowd, &crowded, &few, 100000);
-    wrong(mark, 19, &long);
-    wrong(mark, 3, &long);
-    wrong(mark, 2, &long);
-    wrong(mark, 10, &long);
-    wrong(mark, 10, &long[..2]);
-    wrong(mark, 10, &twice);
+    crowded(7, mark);
+    crowded(6, mark);
+    wrong(mark, 0x13050a05_00000000, 0x99999_000, 5);
+    wrong(mark, 0x03050a05_00000000, 0x99999_000, 5);
+    wrong(mark, 0x02050a05_00000000, 0x99999_000, 5);
+    wrong(mark, RING, 0x99999_000, 5);
+    wrong(mark, RING, 0x99999_000, 2);
+    wrong(mark, RING, 0x010_00000, 3);
 }
 
-fn billed(mark: Mark, ordering: &[u8], minutes: &[u16], rate: u64) {
-    let ring = RING;
-    play(6, mark, &ring, ordering, minutes, rate);
+// The walk that fails, or its first point alone.
+fn billed(mark: Mark, k: usize, minutes: [u16; 5], m: usize, rate: u64)
+    requires { ⌜ (k ≤ 64) × (m ≤ 5) ⌝ }
+{
+    play_on(6, mark, RING, 4, FAILING, k, minutes, m, rate);
 }
 
 // Refused with 18, 19 and 20 likewise: for a list that is too short, too long, or has an entry above 999, for the rate, and for the walk. Then with
 // nothing wrong but an entry of a point that is not placed, and with nothing wrong at all.
 fn refused_bills(mark: Mark) {
-    let failing = FAILING;
-    let many = LONG;
-    let mut above = MINUTES;
-    above[3] = 1000;
-    let mut far_above = MINUTES;
-    far_above[0] = 65535;
-    let minutes = MINUTES;
-    billed(mark, &failing, &minutes[..3], 100000);
-    billed(mark, &failing, &many, 100000);
-    billed(mark, &failing, &above, 100000);
-    billed(mark, &failing, &far_above, 100000);
-    billed(mark, &failing, &minutes, 100000);
-    billed(mark, &failing, &minutes, 18446744073709551615);
-    billed(mark, &failing, &minutes, 99999);
-    billed(mark, &failing[..1], &above, 99999);
-    billed(mark, &failing[..1], &minutes, 99999);
+    billed(mark, 2, MINUTES, 3, 100000);
+    billed(mark, 2, LONG, 5, 100000);
+    billed(mark, 2, [10, 20, 5, 1000, 0], 4, 100000);
+    billed(mark, 2, [65535, 20, 5, 30, 0], 4, 100000);
+    billed(mark, 2, MINUTES, 4, 100000);
+    billed(mark, 2, MINUTES, 4, 18446744073709551615);
+    billed(mark, 2, MINUTES, 4, 99999);
+    billed(mark, 1, [10, 20, 5, 1000, 0], 4, 99999);
+    billed(mark, 1, MINUTES, 4, 99999);
 }
 
 // No points at all.
 fn empty(kind: u8, mark: Mark) {
-    let rows = [0u64; 0];
-    let ordering = [0u8; 0];
-    let minutes = [0u16; 0];
-    rated(kind, mark, &rows, &ordering, &minutes);
+    rated(kind, mark, 0, 0, 0, 0, MINUTES);
 }
 
 fn main() {

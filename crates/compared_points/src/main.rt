@@ -15,6 +15,7 @@ use searches::Kind;
 use searches::Mark;
 use searches::Vertex;
 use traversal::Traversal;
+ghost use Prim.Native.Nat.{_≤_};
 
 // The points of the largest of the small plans, and one that it does not have.
 const POINTS: [u8; 10] = [0, 1, 2, 3, 4, 5, 6, 7, 8, 9];
@@ -22,17 +23,19 @@ const POINTS: [u8; 10] = [0, 1, 2, 3, 4, 5, 6, 7, 8, 9];
 // Some of 64 points, and two numbers that are none.
 const SPREAD: [u8; 10] = [0, 9, 18, 27, 36, 45, 54, 63, 64, 255];
 
-// With four points of which 1 is placed: an unplaced point, a placed one, and a number that is none.
-const OF_EACH_SORT: [u8; 3] = [0, 1, 4];
+// With four points of which 1 is placed: an unplaced point, a placed one, and a number that is none. Only these three are compared.
+const OF_EACH_SORT: [u8; 10] = [0, 1, 4, 0, 0, 0, 0, 0, 0, 0];
+
+// Plans and walks are written as digits (`rows_of` and `places_of` of `notation`).
 
 // The links 0-1, 1-2, 2-3, 0-3.
-const RING: [u64; 4] = [10, 5, 10, 5];
+const RING: u64 = 0x0a050a05_00000000;
 
 // The links 0-1, 0-3, 1-3, and 0-2.
-const PENDANT_ON_0: [u64; 4] = [14, 9, 1, 3];
+const PENDANT_ON_0: u64 = 0x0e090103_00000000;
 
 // The links 0-1, 0-3, 1-3, and 1-2.
-const PENDANT_ON_1: [u64; 4] = [10, 13, 2, 3];
+const PENDANT_ON_1: u64 = 0x0a0d0203_00000000;
 
 // One call.
 fn compare(traversal: Traversal, first: u8, second: u8) -> Traversal {
@@ -42,73 +45,40 @@ fn compare(traversal: Traversal, first: u8, second: u8) -> Traversal {
     compared.traversal
 }
 
-// With the number at place p of the list, if it is there and p is not above `last`.
-fn against(traversal: Traversal, first: u8, points: &[u8], last: usize, p: usize) -> Traversal {
-    if p < points.len() {
-        if p <= last {
-            return compare(traversal, first, points[p]);
-        }
-    }
-    traversal
-}
-
-fn against_each(traversal: Traversal, first: u8, points: &[u8], last: usize) -> Traversal {
+// The line of a number: it is compared with each of the first `count` numbers of the list.
+fn against_each(traversal: Traversal, first: u8, points: [u8; 10], count: usize) -> Traversal
+    requires { ⌜ count ≤ 10 ⌝ }
+{
     lines::show_first(first);
-    let t = against(traversal, first, points, last, 0);
-    let t = against(t, first, points, last, 1);
-    let t = against(t, first, points, last, 2);
-    let t = against(t, first, points, last, 3);
-    let t = against(t, first, points, last, 4);
-    let t = against(t, first, points, last, 5);
-    let t = against(t, first, points, last, 6);
-    let t = against(t, first, points, last, 7);
-    let t = against(t, first, points, last, 8);
-    let t = against(t, first, points, last, 9);
-    lines::say(b"\n");
+    let mut t = traversal;
+    for p in 0..count {
+        t = compare(t, first, points[p]);
+    }
+    notation::put(b'\n');
     t
 }
 
-// The line of the number at place p of the list, if it is there and p is not above `last`.
-fn line(traversal: Traversal, points: &[u8], last: usize, p: usize) -> Traversal {
-    if p < points.len() {
-        if p <= last {
-            return against_each(traversal, points[p], points, last);
-        }
-    }
-    traversal
-}
-
-// Each of at most ten numbers compared with each, up to the place `last` of their list.
-fn compare_each(traversal: Traversal, points: &[u8], last: usize) -> Traversal {
+// Each of the first `count` numbers of the list compared with each of them.
+fn compare_each(traversal: Traversal, points: [u8; 10], count: usize) -> Traversal
+    requires { ⌜ count ≤ 10 ⌝ }
+{
     lines::show_walk(traversal);
-    let t = line(traversal, points, last, 0);
-    let t = line(t, points, last, 1);
-    let t = line(t, points, last, 2);
-    let t = line(t, points, last, 3);
-    let t = line(t, points, last, 4);
-    let t = line(t, points, last, 5);
-    let t = line(t, points, last, 6);
-    let t = line(t, points, last, 7);
-    let t = line(t, points, last, 8);
-    let t = line(t, points, last, 9);
+    let mut t = traversal;
+    for p in 0..count {
+        t = against_each(t, points[p], points, count);
+    }
     lines::show_walk(t);
     t
 }
 
 // The numbers 0 to n, where n is at most 9.
 fn compare_all(traversal: Traversal) -> Traversal {
-    let points = POINTS;
-    compare_each(traversal, &points, traversal.n)
-}
-
-fn compare_spread(traversal: Traversal) -> Traversal {
-    let points = SPREAD;
-    compare_each(traversal, &points, 9)
-}
-
-fn compare_sorts(traversal: Traversal) {
-    let points = OF_EACH_SORT;
-    compare_each(traversal, &points, 2);
+    let n = traversal.n;
+    if n < 10 {
+        compare_each(traversal, POINTS, n + 1)
+    } else {
+        traversal
+    }
 }
 
 // With an offered point placed; where all are placed, as it was.
@@ -121,42 +91,38 @@ fn grown(traversal: Traversal, random: u64) -> Traversal {
 }
 
 fn grown_by_four(traversal: Traversal, random: u64) -> Traversal {
-    let r = next(random);
-    let t = grown(traversal, r);
-    let r = next(r);
-    let t = grown(t, r);
-    let r = next(r);
-    let t = grown(t, r);
-    let r = next(r);
-    grown(t, r)
+    let mut t = traversal;
+    let mut r = next(random);
+    t = grown(t, r);
+    r = next(r);
+    t = grown(t, r);
+    r = next(r);
+    t = grown(t, r);
+    r = next(r);
+    t = grown(t, r);
+    t
 }
 
 fn grown_by_sixteen(traversal: Traversal, random: u64) -> Traversal {
-    let r = next(random);
-    let t = grown_by_four(traversal, r);
-    let r = next(r);
-    let t = grown_by_four(t, r);
-    let r = next(r);
-    let t = grown_by_four(t, r);
-    let r = next(r);
-    grown_by_four(t, r)
+    let mut t = traversal;
+    let mut r = next(random);
+    t = grown_by_four(t, r);
+    r = next(r);
+    t = grown_by_four(t, r);
+    r = next(r);
+    t = grown_by_four(t, r);
+    r = next(r);
+    t = grown_by_four(t, r);
+    t
 }
 
-// A point placed and all compared, unless all were placed.
+// A point placed and all compared.
 fn step(traversal: Traversal, random: u64) -> Traversal {
-    let k = traversal.k;
-    if k < traversal.n {
-        compare_all(grown(traversal, random))
-    } else {
-        traversal
-    }
+    compare_all(grown(traversal, random))
 }
 
-// A point taken back and all compared, unless none was placed.
+// A point taken back and all compared.
 fn step_back(traversal: Traversal) -> Traversal {
-    if traversal.k == 0 {
-        return traversal;
-    }
     let stepped = traversal.take_back();
     let t = stepped.traversal;
     compare_all(t)
@@ -165,40 +131,36 @@ fn step_back(traversal: Traversal) -> Traversal {
 // A random number for each kind, mark, n and number of links.
 fn seed(kind: u8, mark: Mark, n: usize, links: u8) -> u64 {
     let digits = (n as u64)
-        ^ (lines::wide(links) << 8)
-        ^ (lines::wide(kind) << 16)
-        ^ (lines::number(mark) << 24);
+        ^ (notation::wide(links) << 8)
+        ^ (notation::wide(kind) << 16)
+        ^ (notation::number(mark) << 24);
     next(next(next(digits ^ 0x9e3779b97f4a7c15)))
 }
 
-// Nothing placed on a random plan of n points, at most nine.
-fn start(kind: u8, mark: Mark, n: usize, links: u8, random: u64) -> Traversal {
+// Nothing placed on a plan of n points.
+fn start(kind: u8, mark: Mark, n: usize, rows: [u64; 64]) -> Traversal {
     Traversal {
         kind: Kind(kind),
         mark,
         n,
-        rows: plans::small(mark, n, links, random),
+        rows,
         k: 0,
         ordering: [0u8; 64],
     }
 }
 
 // A walk over all of at most six points.
-fn play(kind: u8, mark: Mark, n: usize, links: u8) -> Traversal {
+fn play(kind: u8, mark: Mark, n: usize, links: u8) -> Traversal
+    requires { ⌜ n ≤ 9 ⌝ }
+{
     let r = seed(kind, mark, n, links);
-    let t = compare_all(start(kind, mark, n, links, r));
-    let r = next(r);
-    let t = step(t, r);
-    let r = next(r);
-    let t = step(t, r);
-    let r = next(r);
-    let t = step(t, r);
-    let r = next(r);
-    let t = step(t, r);
-    let r = next(r);
-    let t = step(t, r);
-    let r = next(r);
-    step(t, r)
+    let mut t = compare_all(start(kind, mark, n, plans::small(mark, n, links, r)));
+    let mut random = r;
+    for _ in 0..n {
+        random = next(random);
+        t = step(t, random);
+    }
+    t
 }
 
 // A walk over all of four points; three are taken back, and one is placed.
@@ -213,7 +175,7 @@ fn play_back(kind: u8, mark: Mark) {
 // A walk over four of nine points, and then six.
 fn play_on_nine(kind: u8, mark: Mark) {
     let r = seed(kind, mark, 9, plans::HALF);
-    let t = start(kind, mark, 9, plans::HALF, r);
+    let t = start(kind, mark, 9, plans::small(mark, 9, plans::HALF, r));
     let t = compare_all(grown_by_four(t, r));
     compare_all(grown(grown(t, r), next(r)));
 }
@@ -224,89 +186,75 @@ fn play_on_largest(kind: u8, mark: Mark) {
     let rows = plans::largest(mark, r);
     let opened = Traversal::open(Kind(kind), mark, &rows);
     let t = opened.traversal;
-    let t = compare_spread(grown_by_sixteen(t, r));
-    compare_spread(grown_by_sixteen(t, next(r)));
+    let t = compare_each(grown_by_sixteen(t, r), SPREAD, 10);
+    compare_each(grown_by_sixteen(t, next(r)), SPREAD, 10);
 }
 
-// The walk 0 1 and a third point, on a plan of four points.
-fn third(kind: u8, mark: Mark, plan: [u64; 4], point: u8) {
-    let mut rows = [0u64; 64];
-    rows[0] = plan[0];
-    rows[1] = plan[1];
-    rows[2] = plan[2];
-    rows[3] = plan[3];
-    let mut ordering = [0u8; 64];
-    ordering[1] = 1;
-    ordering[2] = point;
-    compare_all(Traversal {
-        kind: Kind(kind),
-        mark,
-        n: 4,
-        rows,
-        k: 3,
-        ordering,
-    });
-}
-
-// Walks that fail BFS and LexBFS; DFS and LexDFS; all kinds but Generic and BFS; all kinds but Generic and DFS.
-fn failing(kind: u8, mark: Mark) {
-    third(kind, mark, RING, 2);
-    third(kind, mark, RING, 3);
-    third(kind, mark, PENDANT_ON_0, 2);
-    third(kind, mark, PENDANT_ON_1, 2);
-}
-
-// An open walk on the ring that nobody opened, with some of its parts as they are given here: `first_row` and `last_row` of its 64 rows, and
-// `first`, `second` and `last` of its 64 places.
+// An open walk that nobody opened, with `last_row` and `last` for the last of its 64 rows and its 64 places.
 fn made(
     kind: u8,
     mark: Mark,
     n: usize,
     k: usize,
-    first_row: u64,
+    plan: u64,
     last_row: u64,
-    first: u8,
-    second: u8,
+    walk: u64,
     last: u8,
-) {
-    let mut rows = [0u64; 64];
-    rows[0] = first_row;
-    rows[1] = 5;
-    rows[2] = 10;
-    rows[3] = 5;
+) -> Traversal {
+    let mut rows = notation::rows_of(plan);
     rows[63] = last_row;
-    let mut ordering = [0u8; 64];
-    ordering[0] = first;
-    ordering[1] = second;
+    let mut ordering = notation::places_of(walk);
     ordering[63] = last;
-    compare_sorts(Traversal {
+    Traversal {
         kind: Kind(kind),
         mark,
         n,
         rows,
         k,
         ordering,
-    });
+    }
+}
+
+// A walk over three of four points.
+fn third(kind: u8, mark: Mark, plan: u64, walk: u64) {
+    compare_all(made(kind, mark, 4, 3, plan, 0, walk, 0));
+}
+
+// Walks that fail BFS and LexBFS; DFS and LexDFS; all kinds but Generic and BFS; all kinds but Generic and DFS.
+fn failing(kind: u8, mark: Mark) {
+    third(kind, mark, RING, 0x012_00000);
+    third(kind, mark, RING, 0x013_00000);
+    third(kind, mark, PENDANT_ON_0, 0x012_00000);
+    third(kind, mark, PENDANT_ON_1, 0x012_00000);
+}
+
+// The points of each sort compared on such an open walk.
+fn sorts(kind: u8, mark: Mark, n: usize, k: usize, plan: u64, last_row: u64, walk: u64, last: u8) {
+    compare_each(
+        made(kind, mark, n, k, plan, last_row, walk, last),
+        OF_EACH_SORT,
+        3,
+    );
 }
 
 // Well formed at first, then with one part damaged at a time. In the last one 3 leads to 0 and 0 not to 3: damaged if two-way.
 fn damaged(kind: u8, mark: Mark) {
-    made(kind, mark, 4, 1, 10, 0, 1, 0, 0);
-    made(kind, mark, 65, 1, 10, 0, 1, 0, 0);
-    made(kind, mark, 18446744073709551615, 1, 10, 0, 1, 0, 0);
-    made(kind, mark, 0, 0, 10, 0, 0, 0, 0);
-    made(kind, mark, 4, 5, 10, 0, 1, 0, 0);
-    made(kind, mark, 4, 65, 10, 0, 1, 0, 0);
-    made(kind, mark, 4, 18446744073709551615, 10, 0, 1, 0, 0);
-    made(kind, mark, 4, 1, 26, 0, 1, 0, 0);
-    made(kind, mark, 4, 1, 11, 0, 1, 0, 0);
-    made(kind, mark, 4, 1, 10, 1, 1, 0, 0);
-    made(kind, mark, 4, 1, 10, 0, 7, 0, 0);
-    made(kind, mark, 4, 2, 10, 0, 1, 1, 0);
-    made(kind, mark, 4, 2, 10, 0, 1, 3, 0);
-    made(kind, mark, 4, 1, 10, 0, 1, 3, 0);
-    made(kind, mark, 4, 1, 10, 0, 1, 0, 3);
-    made(kind, mark, 4, 1, 2, 0, 1, 0, 0);
+    sorts(kind, mark, 4, 1, RING, 0, 0x10_000000, 0);
+    sorts(kind, mark, 65, 1, RING, 0, 0x10_000000, 0);
+    sorts(kind, mark, 18446744073709551615, 1, RING, 0, 0x10_000000, 0);
+    sorts(kind, mark, 0, 0, RING, 0, 0x00_000000, 0);
+    sorts(kind, mark, 4, 5, RING, 0, 0x10_000000, 0);
+    sorts(kind, mark, 4, 65, RING, 0, 0x10_000000, 0);
+    sorts(kind, mark, 4, 18446744073709551615, RING, 0, 0x10_000000, 0);
+    sorts(kind, mark, 4, 1, 0x1a050a05_00000000, 0, 0x10_000000, 0);
+    sorts(kind, mark, 4, 1, 0x0b050a05_00000000, 0, 0x10_000000, 0);
+    sorts(kind, mark, 4, 1, RING, 1, 0x10_000000, 0);
+    sorts(kind, mark, 4, 1, RING, 0, 0x70_000000, 0);
+    sorts(kind, mark, 4, 2, RING, 0, 0x11_000000, 0);
+    sorts(kind, mark, 4, 2, RING, 0, 0x13_000000, 0);
+    sorts(kind, mark, 4, 1, RING, 0, 0x13_000000, 0);
+    sorts(kind, mark, 4, 1, RING, 0, 0x10_000000, 3);
+    sorts(kind, mark, 4, 1, 0x02050a05_00000000, 0, 0x10_000000, 0);
 }
 
 fn marked(kind: u8, mark: Mark) {

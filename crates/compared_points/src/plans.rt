@@ -1,6 +1,6 @@
 // Random plans, and random points of a set. The numbers are the same in every run.
 use searches::Mark;
-ghost use Prim.Native.Nat.{_≤_};
+ghost use Prim.Native.Nat.{_<_, _≤_};
 
 // How many of the possible links a plan has: a quarter, half, three quarters; or three quarters of those between two even points or two odd ones.
 pub const FEW: u8 = 0;
@@ -15,17 +15,11 @@ const EVEN: u64 = 0x5555555555555555;
 
 const ODD: u64 = 0xaaaaaaaaaaaaaaaa;
 
-const ALL: u64 = 0xffffffffffffffff;
-
 // The random number after this one (xorshift), which is not 0 and does not become 0.
 pub fn next(random: u64) -> u64 {
     let x = random ^ (random << 13);
     let y = x ^ (x >> 7);
     y ^ (y << 17)
-}
-
-fn smallest(set: u64) -> u8 {
-    (u64::trailing_zeros(set) % 64) as u8
 }
 
 // A random part of the set; the whole set where that part would be empty.
@@ -38,27 +32,8 @@ fn part(set: u64, random: u64) -> u64 {
 pub fn chosen(set: u64, random: u64) -> u8 {
     let half = part(set, random);
     let quarter = part(half, next(random));
-    smallest(part(quarter, next(next(random))))
-}
-
-fn contains(set: u64, v: usize) -> bool {
-    if v < 64 { (set >> v) & 1 == 1 } else { false }
-}
-
-fn with(set: u64, v: usize) -> u64 {
-    if v < 64 { set | (1u64 << v) } else { set }
-}
-
-fn without(set: u64, v: usize) -> u64 {
-    if v < 64 {
-        set & (ALL ^ (1u64 << v))
-    } else {
-        set
-    }
-}
-
-fn below(n: usize) -> u64 {
-    if n < 64 { (ALL << n) ^ ALL } else { ALL }
+    let few = part(quarter, next(next(random)));
+    (u64::trailing_zeros(few) % 64) as u8
 }
 
 fn random_set(links: u8, random: u64) -> u64 {
@@ -71,12 +46,9 @@ fn random_set(links: u8, random: u64) -> u64 {
     }
 }
 
-// The points that u may be linked to, or may lead to; none where u is not below n.
+// The points that u may be linked to, or may lead to.
 fn others(n: usize, links: u8, u: usize) -> u64 {
-    if n <= u {
-        return 0;
-    }
-    let points = without(below(n), u);
+    let points = bitset::remove(bitset::full_below(n), u);
     if links != PIECES {
         return points;
     }
@@ -87,72 +59,32 @@ fn others(n: usize, links: u8, u: usize) -> u64 {
     }
 }
 
-// Some of them.
-fn drawn(n: usize, links: u8, random: u64, u: usize) -> u64 {
-    others(n, links, u) & random_set(links, random)
+// The rows with u linked to the points of the set that are smaller.
+fn linked(rows: [u64; 64], set: u64, u: usize) -> [u64; 64]
+    requires { ⌜ u < 64 ⌝ }
+{
+    let mut all = rows;
+    all[u] = set & bitset::full_below(u);
+    for v in 0..u {
+        all[v] = all[v] | (((set >> v) & 1) << u);
+    }
+    all
 }
 
-fn lead(rows: &mut [u64], linked: bool, u: usize, v: usize) {
-    if linked {
-        if u < rows.len() {
-            rows[u] = with(rows[u], v);
+// A plan of n points; the other rows are 0. One-way, u leads to each point that is drawn for it; two-way, it is linked to the smaller ones of them.
+pub fn small(mark: Mark, n: usize, links: u8, random: u64) -> [u64; 64]
+    requires { ⌜ n ≤ 64 ⌝ }
+{
+    let mut rows = [0u64; 64];
+    let mut r = random;
+    for u in 0..n {
+        r = next(r);
+        let drawn = others(n, links, u) & random_set(links, r);
+        match mark {
+            Mark::TwoWay => rows = linked(rows, drawn, u),
+            Mark::OneWay => rows[u] = drawn,
         }
     }
-}
-
-// Links u and v, if v is in the set and smaller.
-fn link(rows: &mut [u64], set: u64, u: usize, v: usize) {
-    let linked = (v < u) & contains(set, v);
-    lead(rows, linked, u, v);
-    lead(rows, linked, v, u);
-}
-
-fn link_each(rows: &mut [u64], set: u64, u: usize) {
-    link(rows, set, u, 0);
-    link(rows, set, u, 1);
-    link(rows, set, u, 2);
-    link(rows, set, u, 3);
-    link(rows, set, u, 4);
-    link(rows, set, u, 5);
-    link(rows, set, u, 6);
-    link(rows, set, u, 7);
-}
-
-fn lead_to(rows: &mut [u64], set: u64, u: usize) {
-    if u < rows.len() {
-        rows[u] = set;
-    }
-}
-
-// The links of u: two-way, with the smaller ones of the set; one-way, to all of it.
-fn enter(rows: &mut [u64], mark: Mark, set: u64, u: usize) {
-    match mark {
-        Mark::TwoWay => link_each(rows, set, u),
-        Mark::OneWay => lead_to(rows, set, u),
-    }
-}
-
-// A plan of n points, at most nine; the other rows are 0.
-pub fn small(mark: Mark, n: usize, links: u8, random: u64) -> [u64; 64] {
-    let mut rows = [0u64; 64];
-    let r = next(random);
-    enter(&mut rows, mark, drawn(n, links, r, 0), 0);
-    let r = next(r);
-    enter(&mut rows, mark, drawn(n, links, r, 1), 1);
-    let r = next(r);
-    enter(&mut rows, mark, drawn(n, links, r, 2), 2);
-    let r = next(r);
-    enter(&mut rows, mark, drawn(n, links, r, 3), 3);
-    let r = next(r);
-    enter(&mut rows, mark, drawn(n, links, r, 4), 4);
-    let r = next(r);
-    enter(&mut rows, mark, drawn(n, links, r, 5), 5);
-    let r = next(r);
-    enter(&mut rows, mark, drawn(n, links, r, 6), 6);
-    let r = next(r);
-    enter(&mut rows, mark, drawn(n, links, r, 7), 7);
-    let r = next(r);
-    enter(&mut rows, mark, drawn(n, links, r, 8), 8);
     rows
 }
 
@@ -164,36 +96,14 @@ fn turned(mark: Mark, set: u64) -> u64 {
     }
 }
 
-fn next_row(rows: &mut [u64], mark: Mark, set: u64, u: usize) -> u64 {
-    lead_to(rows, without(set, u), u);
-    turned(mark, set)
-}
-
-fn eight_rows(rows: &mut [u64], mark: Mark, set: u64, u: usize) -> u64
-    requires { ⌜ u ≤ 56 ⌝ }
-{
-    let s = next_row(rows, mark, set, u);
-    let s = next_row(rows, mark, s, u + 1);
-    let s = next_row(rows, mark, s, u + 2);
-    let s = next_row(rows, mark, s, u + 3);
-    let s = next_row(rows, mark, s, u + 4);
-    let s = next_row(rows, mark, s, u + 5);
-    let s = next_row(rows, mark, s, u + 6);
-    next_row(rows, mark, s, u + 7)
-}
-
 // A plan of 64 points, from a random set with about an eighth of the numbers 0 to 63: two-way, u and v are linked if it has u + v; one-way, u leads
 // to v if it has v - u. Sums and differences are taken modulo 64.
 pub fn largest(mark: Mark, random: u64) -> [u64; 64] {
-    let set = random & next(random) & next(next(random));
+    let mut set = random & next(random) & next(next(random));
     let mut rows = [0u64; 64];
-    let s = eight_rows(&mut rows, mark, set, 0);
-    let s = eight_rows(&mut rows, mark, s, 8);
-    let s = eight_rows(&mut rows, mark, s, 16);
-    let s = eight_rows(&mut rows, mark, s, 24);
-    let s = eight_rows(&mut rows, mark, s, 32);
-    let s = eight_rows(&mut rows, mark, s, 40);
-    let s = eight_rows(&mut rows, mark, s, 48);
-    eight_rows(&mut rows, mark, s, 56);
+    for u in 0..64 {
+        rows[u] = bitset::remove(set, u);
+        set = turned(mark, set);
+    }
     rows
 }

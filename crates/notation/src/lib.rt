@@ -1,0 +1,67 @@
+// What the programs that play calls share: printing numbers, plans and walks of at most eight points written as one number, and 64 points in a row.
+use searches::Mark;
+
+// Prints one byte.
+pub fn put(byte: u8) {
+    let text = [byte];
+    io::write_all(1, &text);
+}
+
+// Prints a space and a number.
+pub fn show(n: u64) {
+    put(b' ');
+    io::print_decimal(1, n);
+}
+
+// The number that is printed for a mark: 0 two-way, 1 one-way.
+pub fn number(mark: Mark) -> u64 {
+    match mark {
+        Mark::TwoWay => 0,
+        Mark::OneWay => 1,
+    }
+}
+
+pub fn wide(byte: u8) -> u64 {
+    byte as u64
+}
+
+// The rows of a plan that is written as sixteen hexadecimal digits, two for each row, from the first on. The rows after these eight are 0.
+pub fn rows_of(plan: u64) -> [u64; 64] {
+    let mut rows = [0u64; 64];
+    let mut rest = plan;
+    for u in 0..8 {
+        rows[u] = rest >> 56;
+        rest = rest << 8;
+    }
+    rows
+}
+
+// The places of a walk that is written as eight hexadecimal digits, one for each place, from the first on. The places after these eight are 0.
+pub fn places_of(walk: u64) -> [u8; 64] {
+    let mut places = [0u8; 64];
+    let mut rest = walk;
+    for p in 0..8 {
+        places[p] = (rest / 0x10000000 % 16) as u8;
+        rest = rest << 4;
+    }
+    places
+}
+
+// The points 0 to 63.
+pub fn all_points() -> [u8; 64] {
+    let mut points = [0u8; 64];
+    for p in 0u8..64 {
+        points[p as usize] = p;
+    }
+    points
+}
+
+// The rows of 64 points, each linked to the one before it and the one after it.
+pub fn in_a_row() -> [u64; 64] {
+    let mut rows = [0u64; 64];
+    for u in 0..64 {
+        let own = 1u64 << u;
+        rows[u] = (own >> 1) | (own << 1);
+    }
+    rows
+}
