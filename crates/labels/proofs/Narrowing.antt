@@ -1,9 +1,10 @@
 -- Who can be offered once a vertex was placed: where some of those that were offered are left, only these and the ones that the vertex leads to.
 --   offers-within            those that none of a part of the free vertices is ahead of, if everyone outside it is behind one of it
 --   offered-at               what is said of the vertices below 64 holds of every number
---   all-offered              where no label has a position, all are
+--   all-offered, none-reached   where no label has a position, all are; where nobody is reached, likewise
 --   narrows-next             a placing narrows the choice
 --   offers-stay, offers-grown, offers-front   the three cases of it
+--   generic-front            in Generic all that are reached are offered
 --   spread-more, reaches-spread   with the row of a placed vertex put in, no label loses a position, and the reached vertices have a label again
 -- Assumes nothing.
 use mathlib.Core.Path.{_≡_, refl, sym, ap, _∙_, subst}
@@ -14,18 +15,19 @@ use Prim.Native.Nat.{ℕ, _≤_, _<_, _^_}
 use native.Mathlib.Omega.{arith}
 use lib.Dec.{T, eqb, eqb-refl, not-T, T-not}
 use lib.ListN.{length, getD}
-use Rattle.bitset.specs.Below.{anyBelow}
+use Rattle.bitset.specs.Below.{anyBelow, firstBelow}
 use Rattle.bitset.specs.Word.{member, removed, difference, united, common}
 use Rattle.bitset.proofs.Tests.{and-in, and-out, or-inl, or-inr, or-out, decided, same-test, is-false, below-or}
 use Rattle.bitset.proofs.Below.{any-out, any-at}
-use Rattle.bitset.proofs.Scan.{removed-in, removed-keeps}
+use Rattle.bitset.proofs.Scan.{first-member, removed-in, removed-keeps}
 use Rattle.bitset.proofs.Word as word
-use Rattle.searches.specs.Kind.{Search, mns}
+use Rattle.searches.specs.Kind.{Search, generic, mns}
+use Rattle.searches.specs.Violation.{condition}
 use Rattle.searches.proofs.Reason.{outranks→reason}
 use Rattle.searches.proofs.AheadToo.{ahead-of-none}
 use Rattle.searches.proofs.More.{outranks-more}
 use Rattle.searches.proofs.StrictOrder.{outranks-transitive, outranks-cotransitive}
-use Rattle.labels.specs.Words.{aheadIn, labelWith, spreadTo, beatenIn, openIn, Offers, Narrows, Covers, Reaches}
+use Rattle.labels.specs.Words.{aheadIn, labelWith, spreadTo, beatenIn, openIn, Offers, Level, Narrows, Covers, Reaches}
 use Rattle.labels.proofs.Joining.{member-joined}
 use Rattle.labels.proofs.Spreading.{spread-above, spread-at}
 
@@ -100,14 +102,20 @@ module _ (s : Search) (labels : List ℕ) where
           ∙ sym (is-false (openIn s labels free v) (λ t. word.empty-back refl v (subst (λ (b : Bool). T b) (word.member-beyond 64 h v l ∙ sym (word.member-zero v)) (open-out free v t .0))))
 
   -- nobody is ahead of anybody
+  level-offered : (set : ℕ) → set < 2 ^ 64 → Level s labels set → Offers s labels set set
+  level-offered set h level = record {
+    word = h;
+    exact = λ _ v l. same-test (member set v) (openIn s labels set v) (λ t. open-in set v t (λ u g x y. level u v g l x t y)) (λ t. open-out set v t .0);
+  }
+
   pub all-offered : (free : ℕ) → free < 2 ^ 64 → ((v : ℕ) → v < 64 → T (member free v) → label v ≡ 0) → Offers s labels free free
   unfolding aheadIn
-  all-offered free h none = record {
-    word = h;
-    exact = λ _ v l. same-test (member free v) (openIn s labels free v) (λ t. open-in free v t (λ u g x y.
-        let r = outranks→reason 64 (member (label u)) (member (label v)) s y in
-        word.empty-back (none u g x) (r .position) (r .ours))) (λ t. open-out free v t .0);
-  }
+  all-offered free h none = level-offered free h (λ u v l _ x _ y.
+      let r = outranks→reason 64 (member (label u)) (member (label v)) s y in word.empty-back (none u l x) (r .position) (r .ours))
+
+  pub none-reached : (free reached : ℕ) → free < 2 ^ 64 → Covers reached labels → common free reached ≡ 0 → Offers s labels free free
+  none-reached free reached h covers none = all-offered free h (λ v l f.
+      covers v l (λ r. word.empty-back none v (subst (λ (b : Bool). T b) (sym (word.member-common free reached v)) (and-in (member free v) (member reached v) f r))))
 
   module _ (free stay grown : ℕ) (n : Narrows s labels free stay grown) (other : s ≢ mns) where
     -- whoever is in neither is behind one of those that stay
@@ -169,6 +177,22 @@ module _ (s : Search) (labels : List ℕ) where
     where
       both : (u : ℕ) → T (member all u) → T (member free u) × T (member reached u)
       both u y = and-out (member free u) (member reached u) (subst (λ (b : Bool). T b) (same u ∙ word.member-common free reached u) y)
+
+-- no two labels that have a position are ahead of one another in Generic
+pub generic-front : (labels : List ℕ) (free reached : ℕ) → free < 2 ^ 64 → Covers reached labels → Reaches reached free labels → (front : ℕ) → front ≡ common free reached → 0 < front
+    → Offers generic labels free front
+unfolding aheadIn condition
+generic-front labels free reached h covers reaches front e some =
+    let x = first-member front front-fits some in
+    offers-front generic labels free reached front front (firstBelow 64 (member front)) covers reaches (λ v. ap (λ (y : ℕ). member y v) e) (x .0) (x .1)
+    (level-offered generic labels front front-fits (λ u v _ l _ t ahead.
+    let r = outranks→reason 64 (member (getD labels u 0)) (member (getD labels v 0)) generic ahead in
+    let in-both = and-out (member free v) (member reached v) (subst (λ (b : Bool). T b) (ap (λ (y : ℕ). member y v) e ∙ word.member-common free reached v) t) in
+    let has = any-out 64 (member (getD labels v 0)) (reaches v l (in-both .0) (in-both .1)) in
+    r .unexcused (has .at) (has .below) (has .holds) tt))
+  where
+    front-fits : front < 2 ^ 64
+    front-fits = subst (λ (y : ℕ). y < 2 ^ 64) (sym e) (word.common-word h reached)
 
 -- ---- a vertex more is placed
 

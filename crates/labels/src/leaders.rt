@@ -62,7 +62,7 @@ fn leading(kind: Kind, labels: &[u64; 64], weights: &[u64; 64], known: u64, riva
 // The offered vertices of `free` once a vertex was placed. `stay` are those that were offered before and are still unplaced, `grown` the unplaced ones that the
 // placed vertex leads to, and `reached` those that any placed vertex leads to. Where some stay, only these and the grown ones can be offered. In MNS any set
 // is returned.
-pub fn offered_after(
+fn narrowed(
     kind: Kind,
     labels: &[u64; 64],
     weights: &[u64; 64],
@@ -91,4 +91,27 @@ pub fn offered_after(
     }
     let first = bitset::insert(0, bitset::smallest(rivals));
     leading(kind, labels, weights, first, rivals)
+}
+
+// The same for every kind. In Generic all that are reached are offered, and no two have to be compared.
+pub fn offered_after(
+    kind: Kind,
+    labels: &[u64; 64],
+    weights: &[u64; 64],
+    free: u64,
+    reached: u64,
+    stay: u64,
+    grown: u64,
+) -> u64
+    requires { ⌜ Narrows (searchOf (kind .0)) (now labels) free stay grown × Covers reached (now labels) × Reaches reached free (now labels) × Weighed (searchOf (kind .0)) (now labels) (now weights) ⌝ }
+    ensures { λ r. ⌜ Offers (searchOf (kind .0)) (now (labels .entry)) free r ⌝ }
+{
+    if kind.0 != Kind::GENERIC.0 {
+        return narrowed(kind, labels, weights, free, reached, stay, grown);
+    }
+    let front = bitset::common(free, reached);
+    if front == 0 {
+        return free;
+    }
+    front
 }
