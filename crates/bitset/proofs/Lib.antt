@@ -9,3 +9,5 @@ pub mod Passed
 pub mod Halves
 pub mod Exchange
 pub mod Rounds
+pub mod Copying
+pub mod Columns

@@ -2,6 +2,8 @@
 --   bit words r c                the bit in row r and column c
 --   AreWords words               each is a number of 64 bits
 --   Inside n words               there are 64 words, and a bit that is set stands in one of the first n rows and columns
+--   Within rows                  there are at most 64 rows, and none has a bit at or above their number
+--   Columns rows columns         there are 64 columns, and bit u of column v is bit v of row u
 --   Transpose before after       there are as many words, of 64 bits as before, and what stood in row u and column v stands in row v and column u
 -- Rounds of exchanges. A stride s cuts the numbers into blocks of 2 * s, and each block into a lower and an upper half.
 --   Stride s mask                blocks of 2 * s fill the square, and the mask has the numbers of the lower halves
@@ -34,6 +36,14 @@ pub record Transpose (before after : List ℕ) : Type 0 where
   pub as-many : length after ≡ length before
   pub still-words : AreWords before → AreWords after
   pub swapped : (u v : ℕ) → u < 64 → v < 64 → bit after v u ≡ bit before u v
+
+pub record Within (rows : List ℕ) : Type 0 where
+  pub small : length rows ≤ 64
+  pub within : (u v : ℕ) → v < 64 → T (bit rows u v) → v < length rows
+
+pub record Columns (rows columns : List ℕ) : Type 0 where
+  pub full : length columns ≡ 64
+  pub column : (u v : ℕ) → u < 64 → v < 64 → bit columns v u ≡ bit rows u v
 
 -- ---- rounds of exchanges
 

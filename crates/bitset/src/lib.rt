@@ -1,4 +1,5 @@
 // A 64-bit word as a set of the numbers 0 to 63.
+pub mod copy;
 pub mod transposition;
 
 ghost use mathlib.Core.Path.{_≡_};

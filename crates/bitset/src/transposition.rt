@@ -1,11 +1,12 @@
 // Transposes a square of 64 by 64 bits: bit c of word r stands in row r and column c. A round with stride s cuts the square into blocks of 2 * s rows
 // and columns, and each block into four quarters, and exchanges the two that stand crosswise: the one in the first rows and last columns with the one in
 // the last rows and first columns. Rounds with the strides 32, 16, 8, 4, 2 and 1 swap row and column of every bit.
+use crate::copy::copy;
 ghost use mathlib.Core.Path.{_≡_};
 ghost use Prim.Native.Nat.{_+_, _*_, _≤_};
 ghost use lib.Dec.{eqb};
-ghost use lib.ListN.{length};
-ghost use Rattle.bitset.specs.Matrix.{Inside, Transpose, Stride, IsLow, IsBegin, Confined, Exchanged, between, every};
+ghost use lib.ListN.{length, replicate};
+ghost use Rattle.bitset.specs.Matrix.{Inside, Within, Columns, Transpose, Stride, IsLow, IsBegin, Confined, Exchanged, between, every};
 
 // For each number c of `mask`, exchanges bit c + `stride` of the word `low` with bit c of the word `low + stride`.
 fn exchange(words: &mut [u64; 64], low: usize, stride: usize, mask: u64)
@@ -57,4 +58,13 @@ pub fn transpose(words: &mut [u64; 64], n: usize)
     exchange_round(words, 4, 0x0F0F0F0F0F0F0F0F, n);
     exchange_round(words, 2, 0x3333333333333333, n);
     exchange_round(words, 1, 0x5555555555555555, n);
+}
+
+// Writes the columns of `rows`, none of which has a bit at or above their number; `columns` comes in empty.
+pub fn write_columns(rows: &[u64], columns: &mut [u64; 64])
+    requires { ⌜ Within (now rows) × (now columns ≡ replicate 64 0) ⌝ }
+    ensures { λ r. ⌜ Columns (now (rows .entry)) (now (columns .exit)) ⌝ }
+{
+    copy(rows, columns);
+    transpose(columns, rows.len());
 }

@@ -1,7 +1,5 @@
 -- Rows that are their own transpose: no vertex leads to one that does not lead back.
---   Copied rows copy u             the first u rows are copied, and behind them are zeros
---   copied-none, copied-more
---   copied-inside                  rows without a bit outside are the first rows and columns of a square
+--   rows-within                    rows without a bit outside fit into a square
 --   Gathered rows columns set u    the set holds the numbers in which the first u rows and columns differ
 --   gathered-none, gathered-more, gathered-all
 --   differs-one-way                rows differ from their transpose where refusal 5 applies
@@ -16,11 +14,11 @@ use native.Mathlib.Numerals.{add-one}
 use native.Mathlib.Omega.{arith}
 use lib.Dec.{T, eqb, leb·zero}
 use lib.Bits.{bitOr, bitXor, or-lt, xor-lt}
-use lib.ListN.{length, getD, take, set, replicate, length-set, length-replicate, getD-replicate, List·getD-eq-default}
-use lib.Seq.{getD-take, getD-set-same, getD-set-other}
+use lib.ListN.{length, getD, take, set, List·getD-eq-default}
+use lib.Seq.{getD-take}
 use Rattle.bitset.specs.Below.{anyBelow, differ}
 use Rattle.bitset.specs.Word.{member, fromUp}
-use Rattle.bitset.specs.Matrix.{bit, Inside, Transpose}
+use Rattle.bitset.specs.Matrix.{bit, Within, Columns}
 use Rattle.bitset.proofs.Tests.{same-test, below-or}
 use Rattle.bitset.proofs.Below.{any-out, any-at, any-same}
 use Rattle.bitset.proofs.Sets.{differ-in, differ-one}
@@ -31,67 +29,30 @@ use Rattle.searches.specs.Answer.{bitOutside, oneWay}
 use Rattle.searches.proofs.Refusals.{bitOutside-in, oneWay-out, oneWay-in}
 use Rattle.checks.specs.Row.{differsIn}
 
--- ---- the rows copied to the front of an empty square
-
-pub record Copied (rows copy : List ℕ) (u : ℕ) : Type 0 where
-  pub full : length copy ≡ 64
-  pub upto : u ≤ length rows
-  pub passed : (r : ℕ) → r < u → getD copy r 0 ≡ getD rows r 0
-  pub rest : (r : ℕ) → u ≤ r → r < 64 → getD copy r 0 ≡ 0
-
-pub copied-none : (rows : List ℕ) → Copied rows (replicate 64 0) 0
-copied-none rows = record {
-  full = length-replicate {A = ℕ} 64 0;
-  upto = omega arith;
-  passed = λ r l. absurd (omega arith);
-  rest = λ r _ l. getD-replicate 64 r 0 0 l;
-}
-
-pub copied-more : {rows copy : List ℕ} {u : ℕ} → length rows ≤ 64 → Copied rows copy u → u < length rows → Copied rows (set copy u (getD rows u 0)) (u + 1)
-copied-more {rows} {copy} {u} small c l = record {
-  full = length-set copy u (getD rows u 0) ∙ c .full;
-  upto = omega arith;
-  passed = λ r h. go r (below-or r u) h;
-  rest = λ r h g. getD-set-other copy u r (getD rows u 0) 0 (λ e. omega arith) ∙ c .rest r (omega arith) g;
-}
-  where
-    go : (r : ℕ) → (r < u) ⊎ (u ≤ r) → r < u + 1 → getD (set copy u (getD rows u 0)) r 0 ≡ getD rows r 0
-    go r (inl h) _ = getD-set-other copy u r (getD rows u 0) 0 (λ e. omega arith) ∙ c .passed r h
-    go r (inr h) g =
-        let e : u ≡ r = omega arith in
-        subst (λ (x : ℕ). getD (set copy u (getD rows u 0)) x 0 ≡ getD rows x 0) e (getD-set-same copy u (getD rows u 0) 0 (omega (arith, c .full)))
-
-module _ {rows copy : List ℕ} {u : ℕ} (copied : Copied rows copy u) (over : length rows ≤ u) (fits : bitOutside rows ≡ false) where
-  copied-bit : (r c : ℕ) → r < 64 → bit copy r c ≡ arcs rows r c
-  unfolding arcs
-  copied-bit r c l = ap (λ (w : ℕ). member w c) (go (below-or r u))
-    where
-      go : (r < u) ⊎ (u ≤ r) → getD copy r 0 ≡ getD rows r 0
-      go (inl h) = copied .passed r h
-      go (inr h) = copied .rest r h l ∙ sym (List·getD-eq-default rows 0 (omega arith))
-
+module _ (rows : List ℕ) (small : length rows ≤ 64) (fits : bitOutside rows ≡ false) where
   -- a link is one of the vertices
-  below-both : (r c : ℕ) → c < 64 → T (arcs rows r c) → (r < length rows) × (c < length rows)
+  below-both : (u v : ℕ) → v < 64 → T (arcs rows u v) → (u < length rows) × (v < length rows)
   unfolding arcs
-  below-both r c h t = go (below-or r (length rows)) (below-or c (length rows))
+  below-both u v h t = go (below-or u (length rows)) (below-or v (length rows))
     where
-      go : (r < length rows) ⊎ (length rows ≤ r) → (c < length rows) ⊎ (length rows ≤ c) → (r < length rows) × (c < length rows)
+      go : (u < length rows) ⊎ (length rows ≤ u) → (v < length rows) ⊎ (length rows ≤ v) → (u < length rows) × (v < length rows)
       go (inl l) (inl g) = (l, g)
-      go (inl l) (inr g) = absurd (subst (λ (b : Bool). T b) fits (bitOutside-in rows r c l h g t))
-      go (inr l) g = absurd (empty-back (List·getD-eq-default rows 0 l) c t)
+      go (inl l) (inr g) = absurd (subst (λ (b : Bool). T b) fits (bitOutside-in rows u v l h g t))
+      go (inr l) g = absurd (empty-back (List·getD-eq-default rows 0 l) v t)
 
-  pub copied-inside : Inside (length rows) copy
-  copied-inside = record { full = copied .full; inside = λ r c l h t. below-both r c h (subst (λ (b : Bool). T b) (copied-bit r c l) t) }
+  pub rows-within : Within rows
+  unfolding arcs
+  rows-within = record { small = small; within = λ u v h t. below-both u v h t .1 }
 
   -- ---- the rows compared with their transpose
 
-  module _ (small : length rows ≤ 64) {turned : List ℕ} (transpose : Transpose copy turned) where
+  module _ {turned : List ℕ} (made : Columns rows turned) where
     abbrev columns : List ℕ
     columns = take (length rows) turned
 
     column-bit : (u p : ℕ) → u < length rows → p < 64 → bit columns u p ≡ arcs rows p u
-    column-bit u p l h =
-        ap (λ (w : ℕ). member w p) (getD-take (length rows) turned u 0 l) ∙ transpose .swapped p u h (omega arith) ∙ copied-bit p u h
+    unfolding arcs
+    column-bit u p l h = ap (λ (w : ℕ). member w p) (getD-take (length rows) turned u 0 l) ∙ made .column p u h (omega arith)
 
     pub differs-one-way : anyBelow 64 (differsIn rows columns) ≡ oneWay rows
     unfolding differsIn arcs

@@ -59,10 +59,7 @@ fn one_way(rows: &[u64]) -> bool
 {
     let n = rows.len();
     let mut columns = [0u64; 64];
-    for u in 0..n {
-        columns[u] = rows[u];
-    }
-    bitset::transposition::transpose(&mut columns, n);
+    bitset::transposition::write_columns(rows, &mut columns);
     differs(rows, &columns[..n])
 }
 

@@ -1,5 +1,5 @@
 -- The two public calls, from what their parts answer.
---   valid-both-ways, valid-own-transpose, valid-columns   every link of a valid two-way graph goes both ways; what is counted in are the columns
+--   valid-both-ways, valid-own-transpose   every link of a valid two-way graph goes both ways;   valid-within   no row of a valid graph has a bit outside
 --   replayable                        an ordering can be replayed on empty labels, without running values and weights
 --   fault-there, fault-judged         where the replay stops there is a violation, and the first one is judge's verdict
 --   stopped-fails, ended-passes, along-ended, whole-filled, filled-carried   what extend answers and leaves
@@ -16,25 +16,27 @@ use lib.Dec.{T, not-T, T-not}
 use lib.ListN.{length, take, drop, replicate, length-drop, drop-of-length-le}
 use lib.Seq.{take-all, drop-drop}
 use Rattle.bitset.specs.Below.{anyBelow, firstBelow}
-use Rattle.bitset.proofs.Tests.{and-in, not-not, same-test}
+use Rattle.bitset.specs.Matrix.{Within}
+use Rattle.bitset.proofs.Tests.{and-in, not-not, is-false, same-test}
 use Rattle.bitset.proofs.Below.{first}
 use Rattle.bitset.proofs.Passed.{some-found}
 use Rattle.searches.specs.Kind.{Search, searchOf}
 use Rattle.searches.specs.Ordering.{arcs}
 use Rattle.searches.specs.Violation.{Verdict, passes, refused, judge}
 use Rattle.searches.specs.CarryOn.{carryOn}
-use Rattle.searches.specs.Answer.{oneWay, isTwoWay, BothWays, isPass, openTests, Accepts, judgeTests, listTests, carryOnTests, firstRefusal, judgeAnswer, carryOnAnswer, carryOnOutput}
+use Rattle.searches.specs.Answer.{bitOutside, oneWay, isTwoWay, BothWays, isPass, openTests, Accepts, judgeTests, listTests, carryOnTests, firstRefusal, judgeAnswer, carryOnAnswer, carryOnOutput}
 use Rattle.searches.specs.declared.Mark.{Mark}
 use Rattle.searches.proofs.Ordering.{ordering-fits}
 use Rattle.searches.proofs.CarryOn.{passes-greedy}
 use Rattle.searches.proofs.Refusals.{none-accepts, first-refuses, oneWay-in}
 use Rattle.searches.proofs.Answers as answers
 use Rattle.checks.proofs.Tried.{tried-first, refused-before}
+use Rattle.checks.proofs.Symmetry.{rows-within}
 use Rattle.labels.specs.Weights.{weightOf}
 use Rattle.labels.specs.Words.{Weighed}
-use Rattle.steps.specs.Columns.{columnsOf, Transposed}
+use Rattle.steps.specs.Columns.{Transposed}
 use Rattle.steps.specs.Steps.{labelsAfter, smallestAfter, largestAfter, placedAfter, freeAfter, stopsAt, lastIn, firstIn, firstFault, fillIn, Replayable, Searchable, Along}
-use Rattle.steps.proofs.Transposition.{own-transpose, counted-columns}
+use Rattle.steps.proofs.Transposition.{own-transpose}
 use Rattle.steps.proofs.Growing.{along-start}
 use Rattle.engine.specs.declared.after.Moment.{Moment}
 use Rattle.engine.specs.Lists.{Judgeable, Extendable}
@@ -58,9 +60,10 @@ module _ (kind : ℕ) (mark : Mark) (rows : List ℕ) (valid : Accepts (openTest
   unfolding isTwoWay
   valid-own-transpose e = own-transpose rows (valid-both-ways (subst (λ (m : Mark). T (isTwoWay m)) (sym e) tt))
 
-  -- and what is counted in are the columns, whatever the mark
-  pub valid-columns : Transposed rows (take (length rows) (columnsOf mark rows))
-  valid-columns = counted-columns rows (answers.valid-small kind mark rows valid) mark valid-both-ways
+  -- no row has a bit outside
+  pub valid-within : Within rows
+  unfolding openTests
+  valid-within = rows-within rows (answers.valid-small kind mark rows valid) (is-false (bitOutside rows) (valid .1 .1 .0))
 
 module _ (rows : List ℕ) {columns : List ℕ} (w : List ℕ) (k : ℕ) (x : Judgeable rows columns w k) where
   pub replayable : Replayable rows columns w k (replicate 64 0) (replicate 64 64) (replicate 64 0) (replicate 64 0)
@@ -193,10 +196,10 @@ module _ (kind : ℕ) (mark : Mark) (rows w : List ℕ) where
   moment-refused is q e = moment-none is (ap isPass (judge-asked-refused q e))
 
   -- an ordering that was placed again up to `count`
-  module _ (accepted : none ≡ firstRefusal (judgeTests kind mark rows w)) (count : ℕ) (stops : count ≡ firstBelow (length w) (stopsAt (searchOf kind) rows w)) where
-    asked : Judgeable rows (take (length rows) (columnsOf mark rows)) w (length w)
-        × (judge (searchOf kind) (arcs rows) (length rows) w (length w) ≡ judgeAnswer kind mark rows w)
-    asked = judge-asked-accepted accepted (valid-columns kind mark rows (judge-asked-valid accepted))
+  module _ (accepted : none ≡ firstRefusal (judgeTests kind mark rows w)) {columns : List ℕ} (transpose : Transposed rows columns)
+      (count : ℕ) (stops : count ≡ firstBelow (length w) (stopsAt (searchOf kind) rows w)) where
+    asked : Judgeable rows columns w (length w) × (judge (searchOf kind) (arcs rows) (length rows) w (length w) ≡ judgeAnswer kind mark rows w)
+    asked = judge-asked-accepted accepted transpose
 
     pub moment-stopped : {r : Moment} → r ≡ noMoment → count < length w → r ≡ momentAfter kind mark rows w
     moment-stopped is l =

@@ -33,7 +33,7 @@ pub fn judge(kind: Kind, mark: Mark, rows: &[u64], ordering: &[u8]) -> Judgement
     }
     let n = rows.len();
     let mut columns = [0u64; 64];
-    steps::columns::transpose(rows, &mut columns);
+    bitset::transposition::write_columns(rows, &mut columns);
     verdict(kind, rows, &columns[..n], ordering)
 }
 
@@ -102,7 +102,7 @@ pub fn carry_on(
     }
     let n = rows.len();
     let mut columns = [0u64; 64];
-    steps::columns::transpose(rows, &mut columns);
+    bitset::transposition::write_columns(rows, &mut columns);
     extend(kind, rows, &columns[..n], tie_break, output, k)
 }
 

@@ -1,5 +1,4 @@
 pub mod Representation
-pub mod Copying
 pub mod Transposition
 pub mod Tallying
 pub mod Tracking

@@ -74,7 +74,7 @@ impl Traversal {
                 outcome: Outcome::Refused(refusal),
             };
         }
-        steps::copy::copy(rows, &mut copy);
+        bitset::copy::copy(rows, &mut copy);
         Stepped {
             traversal: Traversal {
                 kind,

@@ -1,17 +1,17 @@
 -- `engine::carry_on` meets its contract: refused as the checks say, else extended.
 -- Assumes nothing.
-use Prim.Native.Nat.{ℕ, _≤_}
+use Prim.Native.Nat.{ℕ}
 use mathlib.Core.Path.{_≡_, refl, sym, ap, _∙_}
 use mathlib.Core.List.{List}
 use mathlib.Core.Option.{none}
 use denote.Ref.{now}
 use lib.ListN.{length, take}
 use Rattle.searches.specs.Answer.{openTests, listTests, firstRefusal, Accepts, refusalOf}
-use Rattle.searches.proofs.Answers.{valid-small}
+use Rattle.bitset.specs.Matrix.{Within}
 use Rattle.steps.specs.Columns.{Transposed}
-use Rattle.steps.proofs.Transposition.{transposed-columns, columns-within}
+use Rattle.steps.proofs.Transposition.{first-columns, columns-within}
 use Rattle.engine.specs.Lists.{Extendable}
-use Rattle.engine.proofs.Calls.{valid-own-transpose, carryOn-asked-refused, carryOn-asked-valid, carryOn-asked-accepted, carryOn-asked-last}
+use Rattle.engine.proofs.Calls.{valid-own-transpose, valid-within, carryOn-asked-refused, carryOn-asked-valid, carryOn-asked-accepted, carryOn-asked-last}
 use borrow.Author.Needs.{needs}
 use Rattle.engine.proofs.carry_on.Statement.{statement}
 use Rattle.engine.proofs.carry_on.Tie as tie
@@ -81,21 +81,21 @@ returns-2 c =
 enum-told-3 : tie.Need-enum-told-3
 enum-told-3 c = c .match2 .keys2
 
--- a one-way graph is small, too
-small : (c : tie.After-enum-told3) → let a = c .before .before .before .before .before .before .before .before .before .args in length (now (a .rows)) ≤ 64
-small c =
+-- no row of a one-way graph has a bit outside
+within : (c : tie.After-enum-told3) → let a = c .before .before .before .before .before .before .before .before .before .args in Within (now (a .rows))
+within c =
     let told = c .before .before in
     let a = told .before .before .before .before .before .before .before .args in
-    valid-small (a .kind .0) (a .mark) (now (a .rows)) (valid told)
+    valid-within (a .kind .0) (a .mark) (now (a .rows)) (valid told)
 
-transpose-requires : tie.Need-transpose-requires
-transpose-requires c κs = (small (c .before), refl)
+write-columns-requires : tie.Need-write-columns-requires
+write-columns-requires c κs = (within (c .before), refl)
 
 -- its rows, transposed
-columns-there : (c : tie.After-transpose)
+columns-there : (c : tie.After-write-columns)
     → let rows = now (c .before .before .before .before .before .before .before .before .before .before .before .args .rows) in
-    Transposed rows (take (length rows) (c .transpose .last .1 .0))
-columns-there c = transposed-columns _ (small (c .before .before)) (c .transpose .ensures)
+    Transposed rows (take (length rows) (c .write-columns .last .1 .0))
+columns-there c = first-columns _ (within (c .before .before) .small) (c .write-columns .ensures)
 
 array-share-prefix-columns : tie.Need-array-share-prefix-columns
 array-share-prefix-columns c = columns-within _ _ (columns-there c)
@@ -130,7 +130,7 @@ carry-on-spec =
     same-length-2
     returns-2
     enum-told-3
-    transpose-requires
+    write-columns-requires
     array-share-prefix-columns
     slice-aggregate-extend
     extend-requires-2

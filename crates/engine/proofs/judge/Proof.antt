@@ -1,6 +1,6 @@
 -- `engine::judge` meets its contract: refused as the checks say, else the verdict.
 -- Assumes nothing.
-use Prim.Native.Nat.{ℕ, _≤_}
+use Prim.Native.Nat.{ℕ}
 use mathlib.Core.Path.{_≡_, refl, sym, ap, _∙_}
 use mathlib.Core.List.{List}
 use mathlib.Core.Option.{none}
@@ -10,11 +10,11 @@ use Rattle.searches.specs.Kind.{searchOf}
 use Rattle.searches.specs.Ordering.{arcs}
 use Rattle.searches.specs.Violation.{judge as judgeOf}
 use Rattle.searches.specs.Answer.{openTests, judgeTests, firstRefusal, Accepts, judgeAnswer, verdictOf, refusalOf}
-use Rattle.searches.proofs.Answers.{valid-small}
+use Rattle.bitset.specs.Matrix.{Within}
 use Rattle.steps.specs.Columns.{Transposed}
-use Rattle.steps.proofs.Transposition.{transposed-columns, columns-within}
+use Rattle.steps.proofs.Transposition.{first-columns, columns-within}
 use Rattle.engine.specs.Lists.{Judgeable}
-use Rattle.engine.proofs.Calls.{valid-own-transpose, judge-asked-refused, judge-asked-valid, judge-asked-accepted}
+use Rattle.engine.proofs.Calls.{valid-own-transpose, valid-within, judge-asked-refused, judge-asked-valid, judge-asked-accepted}
 use Rattle.engine.proofs.judge.Statement.{statement}
 use Rattle.engine.proofs.judge.Tie as tie
 
@@ -74,18 +74,18 @@ returns-2 c = c .verdict .ensures ∙ judgeable (c .before .before .before) _ (o
 enum-told-3 : tie.Need-enum-told-3
 enum-told-3 c = c .match2 .keys2
 
--- a one-way graph is small, too
-small : (c : tie.After-enum-told3) → let a = c .before .before .before .before .before .before .before .args in length (now (a .rows)) ≤ 64
-small c = let told = c .before .before in let a = told .before .before .before .before .before .args in valid-small (a .kind .0) (a .mark) (now (a .rows)) (valid told)
+-- no row of a one-way graph has a bit outside
+within : (c : tie.After-enum-told3) → let a = c .before .before .before .before .before .before .before .args in Within (now (a .rows))
+within c = let told = c .before .before in let a = told .before .before .before .before .before .args in valid-within (a .kind .0) (a .mark) (now (a .rows)) (valid told)
 
-transpose-requires : tie.Need-transpose-requires
-transpose-requires c κs = (small (c .before), refl)
+write-columns-requires : tie.Need-write-columns-requires
+write-columns-requires c κs = (within (c .before), refl)
 
 -- its rows, transposed
-columns-there : (c : tie.After-transpose)
+columns-there : (c : tie.After-write-columns)
     → let rows = now (c .before .before .before .before .before .before .before .before .before .args .rows) in
-    Transposed rows (take (length rows) (c .transpose .last .1 .0))
-columns-there c = transposed-columns _ (small (c .before .before)) (c .transpose .ensures)
+    Transposed rows (take (length rows) (c .write-columns .last .1 .0))
+columns-there c = first-columns _ (within (c .before .before) .small) (c .write-columns .ensures)
 
 array-share-prefix-columns : tie.Need-array-share-prefix-columns
 array-share-prefix-columns c = columns-within _ _ (columns-there c)
@@ -111,7 +111,7 @@ judge-spec =
     verdict-requires
     returns-2
     enum-told-3
-    transpose-requires
+    write-columns-requires
     array-share-prefix-columns
     slice-aggregate-verdict
     verdict-requires-2

@@ -1,17 +1,14 @@
 -- `engine::after::after` meets its contract: refused orderings do not pass; any other passes where the replay comes to its end.
 -- Assumes nothing.
-use Prim.Native.Nat.{ℕ}
-use mathlib.Core.Path.{_≡_, refl, sym, ap, _∙_, subst}
-use mathlib.Core.List.{List}
+use mathlib.Core.Path.{_≡_, refl, sym, ap, _∙_}
 use mathlib.Core.Option.{none}
 use denote.Ref.{now}
 use lib.ListN.{length, take}
 use borrow.Author.Needs.{needs}
 use Rattle.searches.specs.Answer.{openTests, judgeTests, firstRefusal, Accepts, refusalOf}
-use Rattle.searches.proofs.Answers.{valid-small}
 use Rattle.steps.specs.Columns.{Transposed}
 use Rattle.steps.proofs.Transposition.{columns-within}
-use Rattle.engine.proofs.Calls.{valid-columns, replayable, judge-asked-valid, judge-asked-accepted, moment-refused, moment-stopped, moment-ended}
+use Rattle.engine.proofs.Calls.{valid-within, valid-both-ways, replayable, judge-asked-valid, judge-asked-accepted, moment-refused, moment-stopped, moment-ended}
 use Rattle.engine.proofs.after.after.Statement.{statement}
 use Rattle.engine.proofs.after.after.Tie as tie
 
@@ -49,17 +46,13 @@ columns-of-requires : tie.Need-columns-of-requires
 columns-of-requires c κs =
     let told = c .before in
     let a = told .before .before .before .before .before .args in
-    (valid-small (a .kind .0) (a .mark) (now (a .rows)) (valid told), refl)
+    (valid-within (a .kind .0) (a .mark) (now (a .rows)) (valid told), valid-both-ways (a .kind .0) (a .mark) (now (a .rows)) (valid told), refl)
 
 -- what is counted in are the columns
 columns-there : (c : tie.After-columns-of)
     → let rows = now (c .before .before .before .before .before .before .before .args .rows) in
     Transposed rows (take (length rows) (c .columns-of .last .1 .1 .0))
-columns-there c =
-    let told = c .before .before in
-    let a = told .before .before .before .before .before .args in
-    subst (λ (columns : List ℕ). Transposed (now (a .rows)) (take (length (now (a .rows))) columns)) (sym (c .columns-of .ensures))
-    (valid-columns (a .kind .0) (a .mark) (now (a .rows)) (valid told))
+columns-there c = c .columns-of .ensures
 
 array-share-prefix-columns : tie.Need-array-share-prefix-columns
 array-share-prefix-columns c = columns-within _ _ (columns-there c)
@@ -81,17 +74,19 @@ no-moment-requires-2 c κs = search needs
 returns-2 : tie.Need-returns-2
 returns-2 c =
     let r = c .before .before .before in
-    let told = r .before .before .before .before .before .before .before .before in
+    let made = r .before .before .before .before .before .before in
+    let told = made .before .before in
     let a = told .before .before .before .before .before .args in
-    moment-stopped (a .kind .0) (a .mark) (now (a .rows)) (now (a .ordering)) (accepted told) (r .replay .result .count) (r .replay .ensures .0) (c .no-moment2 .ensures) (c .before .if1 .taken)
+    moment-stopped (a .kind .0) (a .mark) (now (a .rows)) (now (a .ordering)) (accepted told) (columns-there made) (r .replay .result .count) (r .replay .ensures .0) (c .no-moment2 .ensures) (c .before .if1 .taken)
 
 returns-3 : tie.Need-returns-3
 returns-3 c =
     let r = c .before .before in
-    let told = r .before .before .before .before .before .before .before .before in
+    let made = r .before .before .before .before .before .before in
+    let told = made .before .before in
     let a = told .before .before .before .before .before .args in
     let e = r .replay .ensures in
-    moment-ended (a .kind .0) (a .mark) (now (a .rows)) (now (a .ordering)) (accepted told) (r .replay .result .count) (e .0) (c .if1 .left) (e .1 .1 .0) (e .1 .1 .1 .0)
+    moment-ended (a .kind .0) (a .mark) (now (a .rows)) (now (a .ordering)) (accepted told) (columns-there made) (r .replay .result .count) (e .0) (c .if1 .left) (e .1 .1 .0) (e .1 .1 .1 .0)
     (e .1 .1 .1 .1 .1 .1 .weighed)
 
 pub after-spec : {M : Type 1} → statement M

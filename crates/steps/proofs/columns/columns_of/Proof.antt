@@ -1,12 +1,11 @@
 -- `steps::columns::columns_of` meets its contract: the rows are copied, or transposed, as the mark says.
 -- Assumes nothing.
-use Prim.Native.Nat.{ℕ}
-use mathlib.Core.Path.{sym, ap, _∙_}
-use mathlib.Core.List.{List, _++_}
-use lib.ListN.{length, drop}
+use mathlib.Core.Path.{sym, ap, subst}
+use lib.Dec.{T}
+use lib.ListN.{length}
+use Rattle.searches.specs.Answer.{isTwoWay}
 use Rattle.searches.specs.declared.Mark.{Mark}
-use Rattle.steps.specs.Columns.{columnsOf}
-use Rattle.steps.proofs.Copying.{behind-zeros}
+use Rattle.steps.proofs.Transposition.{first-columns, first-rows}
 use Rattle.steps.proofs.columns.columns_of.Statement.{statement}
 use Rattle.steps.proofs.columns.columns_of.Tie as tie
 
@@ -14,29 +13,25 @@ enum-told : tie.Need-enum-told
 enum-told c = c .match .keys1
 
 copy-requires : tie.Need-copy-requires
-copy-requires c κs = let s = c .before .before .before .before in (s .pre .0, ap length (s .pre .1))
+copy-requires c κs = let s = c .before .before .before .before in (s .pre .0 .small, ap length (s .pre .2))
 
 enum-told-2 : tie.Need-enum-told-2
 enum-told-2 c = c .match .keys2
 
-transpose-requires : tie.Need-transpose-requires
-transpose-requires c κs = c .before .before .before .before .pre
+write-columns-requires : tie.Need-write-columns-requires
+write-columns-requires c κs = let s = c .before .before .before .before in (s .pre .0, s .pre .2)
 
 returns : tie.Need-returns
-unfolding columnsOf
+unfolding isTwoWay
 returns c =
     let told = c .before .before in
     let s = told .before .before .before in
-    let rows = s .args .rows .now in
-    c .copy .ensures ∙ ap (λ (empty : List ℕ). rows ++ drop (length rows) empty) (s .pre .1) ∙ ap (λ (x : List ℕ). rows ++ x) (behind-zeros (length rows))
-    ∙ sym (ap (λ (mark : Mark). columnsOf mark rows) (told .enum-told .given .1))
+    first-rows (s .args .rows .now) (s .pre .1 (subst (λ (mark : Mark). T (isTwoWay mark)) (sym (told .enum-told .given .1)) tt)) _ (c .copy .ensures)
 
 returns-2 : tie.Need-returns-2
-unfolding columnsOf
 returns-2 c =
-    let told = c .before .before in
-    let rows = told .before .before .before .args .rows .now in
-    c .transpose .ensures ∙ sym (ap (λ (mark : Mark). columnsOf mark rows) (told .enum-told2 .given .1))
+    let s = c .before .before .before .before .before in
+    first-columns (s .args .rows .now) (s .pre .0 .small) (c .write-columns .ensures)
 
 pub columns-of-spec : {M : Type 1} → statement M
-columns-of-spec = tie.close (tie.spec enum-told copy-requires enum-told-2 transpose-requires returns returns-2)
+columns-of-spec = tie.close (tie.spec enum-told copy-requires enum-told-2 write-columns-requires returns returns-2)

@@ -10,7 +10,7 @@ use lib.ListN.{length, replicate}
 use Rattle.searches.specs.Answer.{refusalOf, openTests, firstRefusal, openAnswer}
 use Rattle.checks.proofs.Tried.{rows-fit}
 use Rattle.traversal.specs.State.{state, nothingOpen, opened}
-use Rattle.steps.proofs.Copying.{behind-zeros}
+use Rattle.bitset.proofs.Copying.{behind-zeros}
 use Rattle.traversal.proofs.Answered.{next-handed, kept-handed}
 use Rattle.traversal.proofs.Traversal.open.Statement.{statement}
 use Rattle.traversal.proofs.Traversal.open.Tie as tie

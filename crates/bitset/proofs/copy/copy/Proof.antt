@@ -1,10 +1,10 @@
--- `steps::copy::copy` meets its contract.
+-- `bitset::copy::copy` meets its contract.
 -- Assumes nothing.
 use Prim.Native.Nat.{_-_}
 use native.Mathlib.Omega.{arith}
-use Rattle.steps.proofs.Copying.{Copying, copying-start, copying-next, copying-end}
-use Rattle.steps.proofs.copy.copy.Statement.{statement}
-use Rattle.steps.proofs.copy.copy.Tie as tie
+use Rattle.bitset.proofs.Copying.{Copying, copying-start, copying-next, copying-end}
+use Rattle.bitset.proofs.copy.copy.Statement.{statement}
+use Rattle.bitset.proofs.copy.copy.Tie as tie
 
 abbrev Inv-loop : tie.InvT-loop
 Inv-loop rows copy₀ u₀ u-end copy u = Copying rows copy₀ copy u
