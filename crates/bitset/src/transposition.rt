@@ -48,7 +48,7 @@ fn exchange_round(words: &mut [u64; 64], stride: usize, mask: u64, n: usize)
 }
 
 // Transposes the words. Only the first `n` rows and columns have bits.
-pub fn transpose(words: &mut [u64; 64], n: usize)
+fn transpose(words: &mut [u64; 64], n: usize)
     requires { ⌜ (n ≤ 64) × Inside n (now words) ⌝ }
     ensures { λ r. ⌜ Transpose (now (words .entry)) (now (words .exit)) ⌝ }
 {

@@ -8,7 +8,7 @@
 --   spread-one        a number below the bound may be taken out of the row once it is changed
 --   spread-at         what is kept of a number below the bound;   spread-length   of as many numbers as before
 --   Spreading put row n before kept rest   `rest` is what is left of `row`: it makes of `kept` what `row` makes of `before`
---   spread-start, spread-next, spread-past, spread-due, spread-end   the spreading begins, goes on below the bound and from it up, what is due, and the end
+--   spread-start, spread-next, spread-due, spread-end   the spreading begins, goes on, what is due, and the end
 --   SpreadingAll p row labels₀ smallest₀ largest₀ labels smallest largest rest   labels and running values together: position p is spread
 -- Assumes nothing.
 use mathlib.Core.Path.{_≡_, refl, sym, ap, ap₂, _∙_, subst}
@@ -133,27 +133,17 @@ module _ (put : ℕ → ℕ) where
     pub spread-start : row < 2 ^ 64 → Spreading before row
     spread-start h = record { word = h; part = λ u t. t; left = refl }
 
-    -- v is taken out of what is left, if that leaves the same to make
-    taken-out : (kept kept′ : List ℕ) (rest v : ℕ) → Spreading kept rest → spreadBy put (removed rest v) n kept′ ≡ spreadBy put rest n kept
-        → Spreading kept′ (removed rest v)
-    taken-out kept kept′ rest v r e = record {
-      word = word.removed-word (r .word) v;
-      part = λ u t. r .part u (removed-in rest v u t .1);
-      left = e ∙ r .left;
-    }
-
     pub spread-next : (kept kept′ : List ℕ) (rest : ℕ) → Spreading kept rest → (v : ℕ) → T (member rest v) → v < n → {x : ℕ} → kept′ ≡ set kept v x
         → x ≡ put (getD kept v 0) → Spreading kept′ (removed rest v)
     unfolding changedBy
     spread-next kept kept′ rest r v t l at-kept at-x =
         let old = getD kept v 0 in
-        taken-out kept kept′ rest v r
-        (ap (λ (ls : List ℕ). spreadBy put (removed rest v) n ls) (at-kept ∙ ap (λ (x : ℕ). set kept v x) (at-x ∙ sym (cond-yes (member rest v) (put old) old t)))
-        ∙ spread-one kept rest v n l)
-
-    pub spread-past : (kept kept′ : List ℕ) (rest : ℕ) → Spreading kept rest → (v : ℕ) → n ≤ v → kept′ ≡ kept → Spreading kept′ (removed rest v)
-    spread-past kept kept′ rest r v l same =
-        taken-out kept kept′ rest v r (ap (λ (ls : List ℕ). spreadBy put (removed rest v) n ls) same ∙ spread-beyond kept rest v n l)
+        record {
+          word = word.removed-word (r .word) v;
+          part = λ u t. r .part u (removed-in rest v u t .1);
+          left = ap (λ (ls : List ℕ). spreadBy put (removed rest v) n ls) (at-kept ∙ ap (λ (x : ℕ). set kept v x) (at-x ∙ sym (cond-yes (member rest v) (put old) old t)))
+              ∙ spread-one kept rest v n l ∙ r .left;
+        }
 
     -- what a number that is left will get is what it has at the end
     pub spread-due : (kept : List ℕ) (rest : ℕ) → Spreading kept rest → n ≤ length before → (v : ℕ) → v < n → T (member rest v) → put (getD kept v 0) ≡ getD (spreadBy put row n before) v 0

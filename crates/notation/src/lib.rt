@@ -21,6 +21,7 @@ pub fn number(mark: Mark) -> u64 {
     }
 }
 
+// A byte as a number that can be printed.
 pub fn wide(byte: u8) -> u64 {
     byte as u64
 }
