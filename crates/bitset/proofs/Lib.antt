@@ -5,6 +5,7 @@ pub mod Sets
 pub mod Word
 pub mod WordOrder
 pub mod Scan
+pub mod Joining
 pub mod Passed
 pub mod Halves
 pub mod Exchange

@@ -7,7 +7,8 @@
 --   common x y        the numbers that are in both
 --   fullBelow n       the set of the numbers below n; of all 64 where n is more
 --   fromUp n x p      p is in the set x, and n or more
-use Prim.Native.Nat.{ℕ, _-_, _/_, _%_, _^_, min}
+--   setBelow n f      the set of the numbers below n at which f holds
+use Prim.Native.Nat.{ℕ, zero, suc, _-_, _/_, _%_, _^_, min}
 use mathlib.Core.Bool.{Bool, cond, _&&_}
 use lib.Dec.{eqb, ltb, leb}
 use lib.Bits.{bitAnd, bitOr, bitXor}
@@ -35,3 +36,7 @@ fullBelow n = 2 ^ min n 64 - 1
 
 unfoldable pub fromUp : ℕ → ℕ → ℕ → Bool
 fromUp n x p = leb n p && member x p
+
+unfoldable pub setBelow : ℕ → (ℕ → Bool) → ℕ
+setBelow zero f = 0
+setBelow (suc n) f = let rest = setBelow n f in cond (f n) (inserted rest n) rest

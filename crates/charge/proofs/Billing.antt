@@ -14,12 +14,13 @@ use Rattle.searches.specs.Violation.{Fails}
 use Rattle.searches.specs.declared.Mark.{Mark}
 use Rattle.searches.specs.Answer.{BothWays, openTests, judgeTests, firstRefusal, Accepts, Refuses, judgeAnswer}
 use Rattle.searches.proofs.Marks.{judge-tests}
-use Rattle.charge.specs.Minutes.{minutesOf}
-use Rattle.charge.specs.Rounding.{distance, halvesUp, Even, halvesToEven, Rounds, RoundsToEven, halfway, rounded}
-use Rattle.charge.specs.Charge.{product, centsHalvesUp, centsToEven, largestMinutes, largestProduct, Malformed, testsAfterJudge, chargeTests, Chargeable}
+use Rattle.minutes.specs.Minutes.{minutesOf}
+use Rattle.cents.specs.Rounding.{distance, halvesUp, Even, halvesToEven, Rounds, RoundsToEven, halfway, rounded}
+use Rattle.charge.specs.Charge.{product, Malformed, testsAfterJudge, chargeTests, Chargeable}
+use Rattle.cents.specs.Cents.{centsHalvesUp, centsToEven, largestMinutes, largestProduct}
 use Rattle.charge.specs.Charge.{cents, refused, billBy, chargeAnswer, chargeToEvenAnswer}
-use Rattle.charge.proofs.Rounding as rounding
-use Rattle.charge.proofs.Cents as rules
+use Rattle.cents.proofs.Rounding as rounding
+use Rattle.cents.proofs.Cents as rules
 use Rattle.charge.proofs.Charging as charging
 use Rattle.charge.proofs.Stated as stated
 

@@ -29,11 +29,12 @@ use Rattle.searches.specs.Answer.{isPass, judgeTests, firstRefusal, Accepts, Re
 use Rattle.searches.proofs.Ordering.{ordering-fits}
 use Rattle.searches.proofs.Refusals.{refuses-first, accepts-none, accepts-or-refuses}
 use Rattle.searches.proofs.Answers.{accepts-both, both-accept, valid-small, isPass-out, accepted-ordering}
-use Rattle.charge.specs.Minutes.{minutesOf}
-use Rattle.charge.specs.Rounding.{distance}
-use Rattle.charge.specs.Charge.{product, largestMinutes, largestProduct, malformedMinutes, Malformed, testsAfterJudge, chargeTests, Chargeable}
+use Rattle.minutes.specs.Minutes.{minutesOf}
+use Rattle.cents.specs.Rounding.{distance}
+use Rattle.charge.specs.Charge.{product, malformedMinutes, Malformed, testsAfterJudge, chargeTests, Chargeable}
+use Rattle.cents.specs.Cents.{largestMinutes, largestProduct}
 use Rattle.charge.specs.Charge.{cents, refused, billBy}
-use Rattle.charge.proofs.Adding.{minutes-bounded}
+use Rattle.minutes.proofs.Adding.{minutes-bounded}
 
 -- ---- the list of minutes
 

@@ -1,9 +1,5 @@
 -- The charge for an ordering: the exact product, the formulas, what is refused, and the answers for every input.
 --   product arc w minutes rate              the minutes of w times the rate in cents an hour: the exact charge, in sixtieths of a cent
---   centsHalvesUp x                         x sixtieths of a cent, rounded to the nearest cent, halves up             [02: K2]
---   centsToEven x                           x sixtieths of a cent, rounded to the nearest cent, halves to the even cent   [02: K7]
---   centsBy halves x                        one of the two, by the code's name of the rule
---   largestMinutes, largestProduct          64 points of 999 minutes with a jump to all but the first; at the largest rate
 --   malformedMinutes n minutes              the list does not have n entries, or has one above 999;   Malformed n minutes   the same in words
 --   testsAfterJudge n minutes rate passing  what is refused after judge's tests: numbers and tests in 02's order
 --   chargeTests kind mark rows w minutes rate   all tests: judge's, then these
@@ -13,7 +9,7 @@
 --   chargeAnswer kind mark rows w minutes rate   what is answered with halves up                                       [02: K2]
 --   chargeToEvenAnswer kind mark rows w minutes rate   what is answered with halves to the even cent                   [02: K7]
 --   billOf                                  an answer of the code as 02's number and values
-use Prim.Native.Nat.{ℕ, _+_, _*_, _/_, _≤_, _<_}
+use Prim.Native.Nat.{ℕ, _*_, _≤_, _<_}
 use mathlib.Core.Path.{_≡_}
 use mathlib.Core.Logic.{_⊎_}
 use mathlib.Core.Bool.{Bool, not, _||_}
@@ -27,29 +23,12 @@ use Rattle.searches.specs.Ordering.{arcs, at}
 use Rattle.searches.specs.Violation.{passes, judge}
 use Rattle.searches.specs.Answer.{isPass, judgeTests, firstRefusal, Accepts, number}
 use Rattle.searches.specs.declared.Mark.{Mark}
-use Rattle.charge.specs.Minutes.{minutesOf}
-use Rattle.charge.specs.Rounding.{halvesToEven, rounded}
+use Rattle.cents.specs.Cents.{centsHalvesUp, centsToEven}
+use Rattle.minutes.specs.Minutes.{minutesOf}
 use Rattle.charge.specs.declared.Charged.{Charged}
-use Rattle.charge.specs.declared.Halves.{Halves}
 
 unfoldable pub product : (ℕ → ℕ → Bool) → List ℕ → List ℕ → ℕ → ℕ
 product arc w minutes rate = minutesOf arc w (length w) minutes * rate
-
-unfoldable pub centsHalvesUp : ℕ → ℕ
-centsHalvesUp x = (x + 30) / 60
-
-unfoldable pub centsToEven : ℕ → ℕ
-centsToEven x = rounded halvesToEven 60 x
-
-unfoldable pub centsBy : Halves → ℕ → ℕ
-centsBy Halves.Up = centsHalvesUp
-centsBy Halves.ToEven = centsToEven
-
-abbrev pub largestMinutes : ℕ
-largestMinutes = 64 * 999 + 63 * 7
-
-abbrev pub largestProduct : ℕ
-largestProduct = largestMinutes * 99999
 
 -- every entry counts, also that of a point that is not placed
 unfoldable pub malformedMinutes : ℕ → List ℕ → Bool

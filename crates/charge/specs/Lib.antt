@@ -1,3 +1,1 @@
-pub mod Minutes
-pub mod Rounding
 pub mod Charge

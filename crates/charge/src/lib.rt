@@ -1,32 +1,20 @@
 // The charge for an ordering: its minutes at an hourly rate, to the nearest cent, by one of two rules for halves of a cent. On lists that the caller
 // owns, for every kind, plan, list and rate there can be. No function here alters a list.
+use cents::Halves;
 use searches::Judgement;
 use searches::Kind;
 use searches::Mark;
 use searches::Outcome;
-use searches::Position;
 use searches::Refusal;
-use steps::lookup::row_of;
-use steps::lookup::vertex_at;
 ghost use mathlib.Core.Path.{_≡_};
-ghost use Prim.Native.Nat.{ℕ, _≤_, _<_};
-ghost use lib.ListN.{length};
-ghost use Rattle.searches.specs.Ordering.{arcs, at};
 ghost use Rattle.searches.specs.Answer.{firstRefusal, refusalOf};
-ghost use Rattle.charge.specs.Minutes.{jumpMinutes, minutesOf};
-ghost use Rattle.charge.specs.Charge.{centsHalvesUp, centsToEven, centsBy, largestProduct, malformedMinutes, testsAfterJudge, chargeTests};
-ghost use Rattle.charge.specs.Charge.{billBy, chargeAnswer, chargeToEvenAnswer, billOf};
+ghost use Rattle.cents.specs.Cents.{centsBy};
+ghost use Rattle.charge.specs.Charge.{malformedMinutes, testsAfterJudge, chargeTests, billBy, chargeAnswer, chargeToEvenAnswer, billOf};
 
 // What charging for an ordering answers.
 pub enum Charged {
     Cents(u64),
     Refused(Refusal),
-}
-
-// The rule for halves of a cent.
-enum Halves {
-    Up,
-    ToEven,
 }
 
 // The charge, in cents, for an ordering that passes the search `kind`. The minutes of its vertices are those in `minutes`, entry v for vertex v, and
@@ -77,8 +65,8 @@ fn bill_by(
     if let Outcome::Refused(refusal) = checked {
         return Charged::Refused(refusal);
     }
-    let spent = minutes_of(rows, ordering, minutes);
-    Charged::Cents(cents_by(spent * rate, halves))
+    let spent = minutes::minutes_of(rows, ordering, minutes);
+    Charged::Cents(cents::cents_by(spent * rate, halves))
 }
 
 // The first of refusals 1 to 6, 8, 9, 18, 19 and 20 that applies, else `Done`.
@@ -133,82 +121,4 @@ fn malformed_minutes(n: usize, minutes: &[u16]) -> bool
         }
     }
     false
-}
-
-// The minutes of an ordering: of each vertex its own, and 7 for each jump.
-fn minutes_of(rows: &[u64], ordering: &[u8], minutes: &[u16]) -> u64
-    requires { ⌜ length (now ordering) ≤ 64 ⌝ }
-    requires { ⌜ ((v : ℕ) → at (now minutes) v ≤ 999) ⌝ }
-    ensures { λ r. ⌜ r ≡ minutesOf (arcs (now (rows .entry))) (now (ordering .entry)) (length (now (ordering .entry))) (now (minutes .entry)) ⌝ }
-{
-    let mut total = 0u64;
-    for p in 0..ordering.len() {
-        let vertex = vertex_at(ordering, Position(p));
-        let v = vertex.0 as usize;
-        let own = minutes_at(minutes, v);
-        let jump = jump_minutes(rows, ordering, Position(p));
-        total = total + own + jump;
-    }
-    total
-}
-
-// The minutes of vertex `v`; 0 behind the last entry.
-fn minutes_at(minutes: &[u16], v: usize) -> u64
-    ensures { λ r. ⌜ r ≡ at (now (minutes .entry)) v ⌝ }
-{
-    if v < minutes.len() {
-        minutes[v] as u64
-    } else {
-        0
-    }
-}
-
-// 7 for a position that is not the first, where the vertex placed directly before does not lead to the one there; else 0.
-fn jump_minutes(rows: &[u64], ordering: &[u8], position: Position) -> u64
-    requires { ⌜ position .0 < length (now ordering) ⌝ }
-    ensures { λ r. ⌜ r ≡ jumpMinutes (arcs (now (rows .entry))) (now (ordering .entry)) (position .0) ⌝ }
-{
-    let p = position.0;
-    if p == 0 {
-        return 0;
-    }
-    let before = vertex_at(ordering, Position(p - 1));
-    let vertex = vertex_at(ordering, position);
-    if bitset::contains(row_of(rows, before), vertex.0 as usize) {
-        0
-    } else {
-        7
-    }
-}
-
-// The exact product, in sixtieths of a cent, rounded to the nearest cent. The largest product takes 33 bits.
-fn cents_by(product: u64, halves: Halves) -> u64
-    requires { ⌜ product ≤ largestProduct ⌝ }
-    ensures { λ r. ⌜ r ≡ centsBy halves product ⌝ }
-{
-    match halves {
-        Halves::Up => cents_halves_up(product),
-        Halves::ToEven => cents_to_even(product),
-    }
-}
-
-// Halves up.
-fn cents_halves_up(product: u64) -> u64
-    requires { ⌜ product ≤ largestProduct ⌝ }
-    ensures { λ r. ⌜ r ≡ centsHalvesUp product ⌝ }
-{
-    (product + 30) / 60
-}
-
-// Halves to the even cent: as halves up, but one less where the product is halfway between two cents and the upper one is odd.
-fn cents_to_even(product: u64) -> u64
-    requires { ⌜ product ≤ largestProduct ⌝ }
-    ensures { λ r. ⌜ r ≡ centsToEven product ⌝ }
-{
-    let up = cents_halves_up(product);
-    if product % 60 == 30 && up % 2 == 1 {
-        up - 1
-    } else {
-        up
-    }
 }

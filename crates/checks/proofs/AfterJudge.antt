@@ -1,11 +1,12 @@
 -- Tests behind judge's: what judge's verdict says of them.
 --   not-judged                               judge has no test with a number above 9
 --   unpassed-fails, fails-unpassed           not passing means that judge's answer is a failure;   fails-accepts   what fails is not refused
---   judged-refused, judged-decided           what judge's answer leaves of all tests: its refusal, or those behind it
+--   judged-refused                           what judge's answer leaves of all tests: its refusal,
+--   passed-decided, failed-decided           or, where it is a verdict, those behind it
 -- Assumes nothing.
 use mathlib.Core.Path.{_≡_, refl, sym, ap, _∙_, subst}
 use mathlib.Core.Logic.{_⊎_, inl, inr}
-use mathlib.Core.Bool.{Bool, not}
+use mathlib.Core.Bool.{Bool, true, false, not}
 use mathlib.Core.List.{List, _++_}
 use mathlib.Core.Option.{some}
 use Prim.Native.Nat.{ℕ, _<_}
@@ -21,6 +22,11 @@ use Rattle.searches.proofs.Numbered.{Without}
 use Rattle.searches.proofs.Refusals.{refuses-first, accepts-none, accepts-or-refuses}
 use Rattle.searches.proofs.Answers.{judge-accepted, judge-refused, refused-judge}
 use Rattle.checks.proofs.Tried.{tried-first, refused-before}
+
+isRefused : Verdict → Bool
+isRefused passes = false
+isRefused (fails a b c) = false
+isRefused (refused r) = true
 
 module _ (kind : ℕ) (mark : Mark) (rows w : List ℕ) where
   pub not-judged : (r : ℕ) → 9 < r → Without r (judgeTests kind mark rows w)
@@ -62,7 +68,7 @@ module _ (kind : ℕ) (mark : Mark) (rows w : List ℕ) where
     judged-refused r e =
         refused-before (judgeTests kind mark rows w) _ (sym (refuses-first (judgeTests kind mark rows w) r (refused-judge kind mark rows w r (sym e))))
 
-    pub judged-decided : {v : Verdict} → v ≡ judgeAnswer kind mark rows w → ((r : ℕ) → v ≡ refused r → ⊥)
+    judged-decided : {v : Verdict} → v ≡ judgeAnswer kind mark rows w → ((r : ℕ) → v ≡ refused r → ⊥)
         → firstRefusal (later (isPass v)) ≡ firstRefusal (judgeTests kind mark rows w ++ later (isPass verdict))
     judged-decided {v} e decided = go (accepts-or-refuses (judgeTests kind mark rows w))
       where
@@ -72,3 +78,17 @@ module _ (kind : ℕ) (mark : Mark) (rows w : List ℕ) where
             ap (λ (x : Verdict). firstRefusal (later (isPass x))) (e ∙ judge-accepted kind mark rows w a)
             ∙ tried-first (judgeTests kind mark rows w) (later (isPass verdict)) (sym (accepts-none (judgeTests kind mark rows w) a)) .same
         go (inr x) = absurd (decided (x .0) (e ∙ judge-refused kind mark rows w (x .0) (x .1)))
+
+    -- a verdict is no refusal
+    unrefused : {v : Verdict} → T (not (isRefused v)) → (r : ℕ) → v ≡ refused r → ⊥
+    unfolding isRefused
+    unrefused told r e = subst (λ (x : Verdict). T (not (isRefused x))) e told
+
+    pub passed-decided : passes ≡ judgeAnswer kind mark rows w → firstRefusal (later (isPass passes)) ≡ firstRefusal (judgeTests kind mark rows w ++ later (isPass verdict))
+    unfolding isRefused
+    passed-decided e = judged-decided e (unrefused tt)
+
+    pub failed-decided : {a b c : ℕ} → fails a b c ≡ judgeAnswer kind mark rows w
+        → firstRefusal (later (isPass (fails a b c))) ≡ firstRefusal (judgeTests kind mark rows w ++ later (isPass verdict))
+    unfolding isRefused
+    failed-decided e = judged-decided e (unrefused tt)

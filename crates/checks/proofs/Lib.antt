@@ -1,4 +1,2 @@
-pub mod Seen
-pub mod Symmetry
 pub mod Tried
 pub mod AfterJudge

@@ -8,9 +8,8 @@
 // The line of a number: the number, a colon, and how the point of this number stands to that of each number here, in the order of their lines: a for
 // ahead, b for behind, l for level, n for neither, or the number of a refusal.
 mod lines;
-mod plans;
 
-use crate::plans::next;
+use plans::next;
 use searches::Kind;
 use searches::Mark;
 use searches::Vertex;

@@ -1,8 +1,8 @@
 -- The two public calls, from what their parts answer.
---   valid-both-ways, valid-own-transpose   every link of a valid two-way graph goes both ways;   valid-within   no row of a valid graph has a bit outside
+--   valid-own-transpose               the rows of a valid two-way graph are their own transpose;   valid-within   no row of a valid graph has a bit outside
 --   replayable                        an ordering can be replayed on empty labels, without running values and weights
 --   fault-there, fault-judged         where the replay stops there is a violation, and the first one is judge's verdict
---   stopped-fails, ended-passes, along-ended, whole-filled, filled-carried   what extend answers and leaves
+--   stopped-fails, ended-passes, whole-ended, along-ended, whole-filled, filled-carried   what extend answers and leaves
 --   moment-refused, moment-stopped, moment-ended   what after hands back
 --   judge-asked-*, carryOn-asked-*    the answers of the calls, and that the graph is valid, from the checks' answer
 -- Assumes nothing.
@@ -12,32 +12,35 @@ use mathlib.Core.List.{List, [], _∷_, _++_, map, append-nil, append-assoc}
 use mathlib.Core.Option.{Option, none, some}
 use Prim.Native.Nat.{ℕ, _+_, _-_, _≤_, _<_}
 use native.Mathlib.Omega.{arith}
-use lib.Dec.{T, not-T, T-not}
+use lib.Dec.{T}
 use lib.ListN.{length, take, drop, replicate, length-drop, drop-of-length-le}
 use lib.Seq.{take-all, drop-drop}
 use Rattle.bitset.specs.Below.{anyBelow, firstBelow}
 use Rattle.bitset.specs.Matrix.{Within}
-use Rattle.bitset.proofs.Tests.{and-in, not-not, is-false, same-test}
+use Rattle.bitset.proofs.Tests.{is-false}
 use Rattle.bitset.proofs.Below.{first}
 use Rattle.bitset.proofs.Passed.{some-found}
 use Rattle.searches.specs.Kind.{Search, searchOf}
 use Rattle.searches.specs.Ordering.{arcs}
 use Rattle.searches.specs.Violation.{Verdict, passes, refused, judge}
 use Rattle.searches.specs.CarryOn.{carryOn}
-use Rattle.searches.specs.Answer.{bitOutside, oneWay, isTwoWay, BothWays, isPass, openTests, Accepts, judgeTests, listTests, carryOnTests, firstRefusal, judgeAnswer, carryOnAnswer, carryOnOutput}
+use Rattle.searches.specs.Answer.{bitOutside, isTwoWay, isPass, openTests, Accepts, judgeTests, listTests, carryOnTests, firstRefusal, judgeAnswer, carryOnAnswer, carryOnOutput}
 use Rattle.searches.specs.declared.Mark.{Mark}
 use Rattle.searches.proofs.Ordering.{ordering-fits}
 use Rattle.searches.proofs.CarryOn.{passes-greedy}
-use Rattle.searches.proofs.Refusals.{none-accepts, first-refuses, oneWay-in}
+use Rattle.searches.proofs.Refusals.{none-accepts, first-refuses}
 use Rattle.searches.proofs.Answers as answers
+use Rattle.searches.proofs.Marks.{valid-both-ways}
 use Rattle.checks.proofs.Tried.{tried-first, refused-before}
-use Rattle.checks.proofs.Symmetry.{rows-within}
+use Rattle.lookup.proofs.Symmetry.{rows-within}
 use Rattle.labels.specs.Weights.{weightOf}
 use Rattle.labels.specs.Words.{Weighed}
-use Rattle.steps.specs.Columns.{Transposed}
-use Rattle.steps.specs.Steps.{labelsAfter, smallestAfter, largestAfter, placedAfter, freeAfter, stopsAt, lastIn, firstIn, firstFault, fillIn, Replayable, Searchable, Along}
-use Rattle.steps.proofs.Transposition.{own-transpose}
-use Rattle.steps.proofs.Growing.{along-start}
+use Rattle.lookup.specs.Columns.{Transposed}
+use Rattle.steps.specs.Steps.{labelsAfter, smallestAfter, largestAfter, placedAfter, freeAfter, stopsAt, Replayable}
+use Rattle.filling.specs.Fill.{fillIn, Along}
+use Rattle.violation.specs.Fault.{lastIn, firstIn, firstFault, Searchable}
+use Rattle.lookup.proofs.Transposition.{own-transpose}
+use Rattle.filling.proofs.Growing.{along-start}
 use Rattle.engine.specs.declared.after.Moment.{Moment}
 use Rattle.engine.specs.Lists.{Judgeable, Extendable}
 use Rattle.engine.specs.Moments.{noMoment, momentOf, momentAfter}
@@ -45,20 +48,10 @@ use Rattle.engine.proofs.Judging.{first-before, judge-fails-words, judg
 use Rattle.engine.proofs.Filling.{carry-fills}
 
 module _ (kind : ℕ) (mark : Mark) (rows : List ℕ) (valid : Accepts (openTests kind mark rows)) where
-  -- in a two-way graph that is not refused with 5 every link goes both ways
-  pub valid-both-ways : T (isTwoWay mark) → BothWays rows
-  unfolding openTests
-  valid-both-ways two-way u v l h = same-test (arcs rows u v) (arcs rows v u) (back u v l h) (back v u h l)
-    where
-      back : (u v : ℕ) → u < length rows → v < length rows → T (arcs rows u v) → T (arcs rows v u)
-      back u v l h t =
-          not-not (arcs rows v u) (not-T (not (arcs rows v u)) (λ none.
-          valid .1 .1 .1 .1 .0 (and-in (isTwoWay mark) (oneWay rows) two-way (oneWay-in rows u v l h t (T-not (arcs rows v u) none)))))
-
-  -- so its rows are their own transpose,
+  -- the rows of a valid two-way graph are their own transpose,
   pub valid-own-transpose : mark ≡ Mark.TwoWay → Transposed rows rows
   unfolding isTwoWay
-  valid-own-transpose e = own-transpose rows (valid-both-ways (subst (λ (m : Mark). T (isTwoWay m)) (sym e) tt))
+  valid-own-transpose e = own-transpose rows (valid-both-ways kind mark rows valid (subst (λ (m : Mark). T (isTwoWay m)) (sym e) tt))
 
   -- no row has a bit outside
   pub valid-within : Within rows
@@ -118,12 +111,16 @@ module _ (rows : List ℕ) {columns : List ℕ} (w : List ℕ) (k : ℕ) (x : Ju
     pub ended-passes : k ≤ j → judge s (arcs rows) (length rows) w k ≡ passes
     ended-passes l = judge-passes-words s rows w k (x .small) (x .ordering) (omega arith)
 
-  -- where the replay came to the end, its words are those after all k vertices
+  -- where the replay came to the end, all k vertices are placed,
+  pub whole-ended : (s : Search) (count : ℕ) → count ≡ firstBelow k (stopsAt s rows w) → k ≤ count → count ≡ k
+  whole-ended s count stops ended = omega (arith, stops, first k (stopsAt s rows w) .within)
+
+  -- and its words are those after them
   pub along-ended : (s : Search) (count : ℕ) → count ≡ firstBelow k (stopsAt s rows w) → k ≤ count → {labels smallest largest : List ℕ} {placed free : ℕ}
       → labels ≡ labelsAfter rows w count → smallest ≡ smallestAfter rows w count → largest ≡ largestAfter rows w count → placed ≡ placedAfter w count
       → free ≡ freeAfter (length rows) w count → Along rows k labels smallest largest placed free
   along-ended s count stops ended at-labels at-smallest at-largest at-placed at-free =
-      let whole : count ≡ k = omega (arith, stops, first k (stopsAt s rows w) .within) in
+      let whole = whole-ended s count stops ended in
       let a = along-start rows w k (x .ordering) in
       record {
         walk = a .walk;

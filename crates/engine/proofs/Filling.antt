@@ -17,9 +17,11 @@ use Rattle.searches.specs.CarryOn.{choice, grow, carryOn}
 use Rattle.searches.proofs.Ordering.{agree-sym, take-agree, ordering-fits, length-grown}
 use Rattle.searches.proofs.CarryOn.{chosen-offered}
 use Rattle.searches.proofs.Run.{Greedy, greedy-ordering, greedy-agree, greedy-grown}
-use Rattle.labels.specs.Words.{spreadTo, chosenIn}
-use Rattle.steps.specs.Steps.{grownBy, labelsAfter, freeAfter, fillIn}
-use Rattle.steps.proofs.Growing.{labels-agree, free-agree, labels-grown, free-grown, choice-same}
+use Rattle.labels.specs.Words.{spreadTo}
+use Rattle.offers.specs.Open.{chosenIn}
+use Rattle.steps.specs.Steps.{grownBy, labelsAfter, freeAfter}
+use Rattle.filling.specs.Fill.{fillIn}
+use Rattle.filling.proofs.Growing.{labels-agree, free-agree, labels-grown, free-grown, choice-same}
 
 pub fill-length : (s : Search) (rows t : List ℕ) (m p : ℕ) (labels : List ℕ) (free : ℕ) → length (fillIn s rows t m p labels free) ≡ m
 unfolding fillIn

@@ -26,8 +26,10 @@ use Rattle.searches.specs.Violation.{condition, meets, violates, Verdict, passe
 use Rattle.searches.proofs.Ordering.{ordering-unplaced, ordering-fits}
 use Rattle.searches.proofs.Judge.{third-vertex, middle-met as middle-found}
 use Rattle.searches.proofs.Violations.{violates-out, violation-refutes, ViolatedAt, unoffered-violation}
-use Rattle.labels.specs.Words.{unexcusedIn, openIn}
-use Rattle.steps.specs.Steps.{labelsAfter, freeAfter, stopsAt, violatesIn, lastIn, firstIn}
+use Rattle.labels.specs.Words.{unexcusedIn}
+use Rattle.offers.specs.Open.{openIn}
+use Rattle.steps.specs.Steps.{labelsAfter, freeAfter, stopsAt}
+use Rattle.violation.specs.Fault.{violatesIn, lastIn, firstIn}
 use Rattle.steps.proofs.Representation.{meets-cut, free-unplaced, label-members, open-offered}
 
 -- ---- the middle of a violation

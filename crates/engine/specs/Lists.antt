@@ -5,7 +5,7 @@ use Prim.Native.Nat.{ℕ, _≤_}
 use mathlib.Core.List.{List}
 use lib.ListN.{length}
 use Rattle.searches.specs.Ordering.{IsOrdering, IsFullOrdering}
-use Rattle.steps.specs.Columns.{Transposed}
+use Rattle.lookup.specs.Columns.{Transposed}
 
 pub record Judgeable (rows columns w : List ℕ) (k : ℕ) : Type 0 where
   pub small : length rows ≤ 64

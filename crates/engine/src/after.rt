@@ -43,7 +43,7 @@ pub fn after(kind: Kind, mark: Mark, rows: &[u64], ordering: &[u8]) -> Moment
     }
     let n = rows.len();
     let k = ordering.len();
-    steps::columns::columns_of(mark, rows, &mut columns);
+    lookup::columns::columns_of(mark, rows, &mut columns);
     let replayed = steps::replay::replay(
         kind,
         rows,

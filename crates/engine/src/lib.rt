@@ -64,7 +64,7 @@ fn verdict(kind: Kind, rows: &[u64], columns: &[u64], ordering: &[u8]) -> Judgem
     let j = replayed.count;
     let free = replayed.stage.free;
     if j < k {
-        return Judgement::Fails(steps::violation::first_violation(
+        return Judgement::Fails(violation::first_violation(
             kind,
             rows,
             ordering,
@@ -142,7 +142,7 @@ fn extend(
     if replayed.count < k {
         return Outcome::Refused(Refusal::StartFails);
     }
-    steps::fill::fill(
+    filling::fill(
         kind,
         rows,
         columns,

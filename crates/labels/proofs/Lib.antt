@@ -1,12 +1,5 @@
 pub mod Comparison
 pub mod Extremes
-pub mod Joining
 pub mod Weights
 pub mod Profiles
-pub mod Scan
 pub mod Spreading
-pub mod Reached
-pub mod Leading
-pub mod Narrowing
-pub mod Ranking
-pub mod Choosing

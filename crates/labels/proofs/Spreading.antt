@@ -10,21 +10,23 @@
 --   Spreading put row n before kept rest   `rest` is what is left of `row`: it makes of `kept` what `row` makes of `before`
 --   spread-start, spread-next, spread-due, spread-end   the spreading begins, goes on, what is due, and the end
 --   SpreadingAll p row labels₀ smallest₀ largest₀ labels smallest largest rest   labels and running values together: position p is spread
+--   member-joined     what is in a label that a position may join
 -- Assumes nothing.
 use mathlib.Core.Path.{_≡_, refl, sym, ap, ap₂, _∙_, subst}
-use mathlib.Core.Bool.{Bool, cond}
+use mathlib.Core.Bool.{Bool, cond, _&&_, _||_}
 use mathlib.Core.Logic.{_⊎_, inl, inr}
 use mathlib.Core.List.{List}
 use Prim.Native.Nat.{ℕ, zero, suc, _<_, _≤_, _^_}
 use native.Mathlib.Omega.{arith}
-use lib.Dec.{T}
+use lib.Dec.{T, eqb}
 use lib.ListN.{length, getD, set, length-set}
 use lib.Seq.{getD-set-same, getD-set-other, set-getD, set-comm}
 use Rattle.bitset.specs.Word.{member, removed}
 use Rattle.bitset.proofs.Tests.{cond-yes, cond-no, below-suc, three-ways}
 use Rattle.bitset.proofs.Scan.{removed-in, removed-other}
+use Rattle.bitset.proofs.Joining.{joined-if}
 use Rattle.bitset.proofs.Word as word
-use Rattle.labels.specs.Words.{labelWith, smallestWith, largestWith, changedBy, spreadBy}
+use Rattle.labels.specs.Words.{labelWith, smallestWith, largestWith, changedBy, spreadBy, joinedIn}
 
 module _ (put : ℕ → ℕ) where
   pub spread-above : (row : ℕ) (kept : List ℕ) (i v : ℕ) → i ≤ v → getD (spreadBy put row i kept) v 0 ≡ getD kept v 0
@@ -160,3 +162,8 @@ abbrev pub SpreadingAll : ℕ → ℕ → List ℕ → List ℕ → List ℕ →
 SpreadingAll p row labels₀ smallest₀ largest₀ labels smallest largest rest =
     Spreading (labelWith p) row 64 labels₀ labels rest × Spreading (smallestWith p) row 64 smallest₀ smallest rest
     × Spreading (largestWith p) row 64 largest₀ largest rest
+
+-- what is in a label after position q was put in where v is in the row
+pub member-joined : (row q v x : ℕ) → q < 64 → (p : ℕ) → member (joinedIn row q v x) p ≡ ((eqb q p && member row v) || member x p)
+unfolding changedBy
+member-joined row q v x l p = joined-if (member row v) x l p

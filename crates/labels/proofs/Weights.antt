@@ -31,7 +31,7 @@ use Rattle.labels.specs.Weights.{smallestByte, mirroredBelow, mirrored, 
 use Rattle.labels.specs.Words.{Weighed, aheadIn, unexcusedIn}
 use Rattle.labels.proofs.Comparison.{bfs-words, lexDfs-words, generic-words, unexcused-bfs}
 use Rattle.labels.proofs.Extremes.{smallest-byte, largest-empty, dfs-bytes, unexcused-dfs}
-use Rattle.labels.proofs.Joining.{suc-split, joined-if}
+use Rattle.bitset.proofs.Joining.{suc-split, joined-if}
 
 -- ---- the set counted from the other end
 

@@ -1,3 +1,2 @@
-pub mod Ranks
 pub mod Weights
 pub mod Words

@@ -1,14 +1,11 @@
 // Labels kept as words: bit p of a vertex's word is set when the vertex at position p leads to it. Beside them stand the running values: each
 // vertex's smallest position, 64 where it has none, and one more than its largest position, 0 where it has none; and the weight of its label, by which
 // it is compared in every search but MNS. Only what is kept of unplaced vertices is changed and asked for. What is compared of a vertex, the comparison
-// of two, the step that a placed vertex makes, the open vertices, and the choice by a tie-break.
-pub mod choice;
-pub mod leaders;
+// of two, and the step that a placed vertex makes.
 pub mod profile;
 mod weight;
 
 use crate::profile::Profile;
-use crate::profile::profile_of;
 use searches::Comparison;
 use searches::Kind;
 use searches::Position;
@@ -17,7 +14,7 @@ ghost use mathlib.Core.Path.{_≡_};
 ghost use Prim.Native.Nat.{_<_};
 ghost use Rattle.searches.specs.Kind.{searchOf};
 ghost use Rattle.searches.specs.Comparison.{toldBy, isAhead, isLevel};
-ghost use Rattle.labels.specs.Words.{Weighed, profileOf, comparedIn, unexcusedIn, spreadTo, smallestWith, smallestTo, largestTo, beatenIn};
+ghost use Rattle.labels.specs.Words.{Weighed, profileOf, comparedIn, spreadTo, smallestWith, smallestTo, largestTo};
 ghost use Rattle.labels.specs.Weights.{Consistent};
 
 // The answer of three tests: the first that holds, and where none does, neither.
@@ -51,7 +48,7 @@ pub fn compare(kind: Kind, c: Profile, b: Profile) -> Comparison
 }
 
 // Whether the answer is that the first is ahead.
-fn tells_ahead(answer: Comparison) -> bool
+pub fn tells_ahead(answer: Comparison) -> bool
     ensures { λ r. ⌜ r ≡ isAhead answer ⌝ }
 {
     match answer {
@@ -63,7 +60,7 @@ fn tells_ahead(answer: Comparison) -> bool
 }
 
 // Whether the answer is that the two are level.
-fn tells_level(answer: Comparison) -> bool
+pub fn tells_level(answer: Comparison) -> bool
     ensures { λ r. ⌜ r ≡ isLevel answer ⌝ }
 {
     match answer {
@@ -72,35 +69,6 @@ fn tells_level(answer: Comparison) -> bool
         Comparison::Level => true,
         Comparison::Neither => false,
     }
-}
-
-// Whether nothing excuses that a vertex of profile `b` came before one of profile `c`, with `position` in the label of `c` and not of `b`. In BFS and
-// DFS the weight is a running value, counted from 64 down in BFS.
-pub fn is_unexcused(kind: Kind, position: Position, c: Profile, b: Profile) -> bool
-    requires { ⌜ (position .0 < 64) × (c ≡ profileOf (searchOf (kind .0)) (c .label)) × (b ≡ profileOf (searchOf (kind .0)) (b .label)) ⌝ }
-    ensures { λ r. ⌜ r ≡ unexcusedIn (searchOf (kind .0)) (position .0) (c .label) (b .label) ⌝ }
-{
-    let search = kind.0;
-    let i = position.0;
-    if search == Kind::BFS.0 {
-        return b.weight <= (64 - i) as u64;
-    }
-    if search == Kind::DFS.0 {
-        return b.weight <= (i + 1) as u64;
-    }
-    if search == Kind::LEX_BFS.0 {
-        return i <= bitset::smallest(bitset::without(b.label, c.label));
-    }
-    if search == Kind::LEX_DFS.0 {
-        return !bitset::any_from(bitset::without(b.label, c.label), i + 1);
-    }
-    if search == Kind::MNS.0 {
-        return bitset::subset(b.label, c.label);
-    }
-    if search == Kind::MCS.0 {
-        return tells_ahead(compare(kind, c, b));
-    }
-    b.label == 0
 }
 
 // A vertex's smallest position once `latest` is put into its label: the one that it had, or where it had none `latest`.
@@ -159,27 +127,4 @@ pub fn spread(
         weights[v] = weight;
         rest = bitset::without_smallest(rest);
     }
-}
-
-// Whether a vertex of `free` is ahead of one of profile `mine`.
-pub fn is_beaten(
-    kind: Kind,
-    labels: &[u64; 64],
-    weights: &[u64; 64],
-    free: u64,
-    mine: Profile,
-) -> bool
-    requires { ⌜ (mine ≡ profileOf (searchOf (kind .0)) (mine .label)) × Weighed (searchOf (kind .0)) (now labels) (now weights) ⌝ }
-    ensures { λ r. ⌜ r ≡ beatenIn (searchOf (kind .0)) (now (labels .entry)) free (mine .label) ⌝ }
-{
-    let mut rest = free;
-    while rest != 0 {
-        let u = bitset::smallest(rest) as u8;
-        let next = profile_of(labels, weights, Vertex(u));
-        if tells_ahead(compare(kind, next, mine)) {
-            return true;
-        }
-        rest = bitset::without_smallest(rest);
-    }
-    false
 }

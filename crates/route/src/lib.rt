@@ -1,5 +1,7 @@
 // The shortest way back: from a vertex of a BFS ordering over parents to a vertex that has none. On lists that the caller owns, for every graph,
 // ordering, vertex and output list there can be.
+use lookup::row_of;
+use lookup::vertex_at;
 use searches::Judgement;
 use searches::Kind;
 use searches::Mark;
@@ -7,8 +9,6 @@ use searches::Outcome;
 use searches::Position;
 use searches::Refusal;
 use searches::Vertex;
-use steps::lookup::row_of;
-use steps::lookup::vertex_at;
 ghost use mathlib.Core.Path.{_≡_};
 ghost use mathlib.Core.List.{_++_};
 ghost use Prim.Native.Nat.{_≤_, _<_};

@@ -6,8 +6,8 @@
 --   carries-over                 so a pass of s is a pass of s′;   carries-over-answers, carries-over-parts   as the calls answer
 --   not-bfs, .. lexDfs-not-mcs   six plans, each with a walk
 --   otherPairs                   a row for each of the 31 pairs that the table does not have: the two searches and one of the six
---   rows-right                   in each row the walk passes the first search and fails the second
---   ToldApart mark s s′          a walk that passes s and fails s′, and its plan of this mark;   row-tells   there is one where the pair has a row
+--   rows-right                   in each row the walk passes the first search and fails the second, the plan taken as two-way
+--   ToldApart mark s s′          a walk that passes s and fails s′, and its plan of this mark;   told-apart, row-tells   there is one where the pair has a row
 --   none-missing, every-pair     every pair is in the table, or has a row
 --   does-not-carry-over-answers, does-not-carry-over   so a pass need not carry over where the table has no pair
 -- Assumes nothing.
@@ -29,7 +29,7 @@ use Rattle.searches.specs.Label.{label}
 use Rattle.searches.specs.Run.{offered}
 use Rattle.searches.specs.Violation.{condition, meets, violates}
 use Rattle.searches.specs.Violation.{Verdict, passes, fails, refused, Fails, third, isLast, isFirst, isMiddle, judge}
-use Rattle.searches.specs.Answer.{bitOutside, selfLoop, oneWay, isTwoWay, vertexOutside, repeated, isPass, openTests, judgeTests, firstRefusal, Accepts, judgeAnswer}
+use Rattle.searches.specs.Answer.{bitOutside, selfLoop, oneWay, isTwoWay, BothWays, vertexOutside, repeated, isPass, openTests, judgeTests, firstRefusal, Accepts, judgeAnswer}
 use Rattle.searches.specs.declared.Mark.{Mark}
 use Rattle.searches.specs.CarryOver.{further, carriesTo, oneOf, carries}
 use Rattle.searches.proofs.AheadToo.{AheadToo, ahead-generic, ahead-lexBfs-bfs, ahead-lexBfs-mns, ahead-lexDfs-dfs, ahead-lexDfs-mns, ahead-mcs-mns}
@@ -37,6 +37,7 @@ use Rattle.searches.proofs.Ordering.{upTo}
 use Rattle.searches.proofs.Run.{offered-in, offered-out}
 use Rattle.searches.proofs.CarryOn.{greedy-passes, passes-greedy}
 use Rattle.searches.proofs.Answers.{ordering-accepted, accepted-ordering, judge-accepted, passes-accepts, isPass-out, valid-any-kind}
+use Rattle.searches.proofs.Marks.{valid-both-ways, either-judge}
 use Rattle.searches.proofs.Examples.{rowOf, rowsOf, P}
 
 -- ---- searches by their kind bytes
@@ -202,31 +203,30 @@ isFail-out passes t = absurd t
 isFail-out (fails a b c) t = (a, b, c, refl)
 isFail-out (refused r) t = absurd t
 
-verdict : Mark → Search → Witness → Verdict
-verdict mark s x = judgeAnswer (kindOf s) mark (x .plan) (x .walk)
+verdict : Search → Witness → Verdict
+verdict s x = judgeAnswer (kindOf s) Mark.TwoWay (x .plan) (x .walk)
 
-abbrev Right : Mark → Row → Type 0
-Right mark (row s s′ x) = (verdict mark s x ≡ passes) × Fails (verdict mark s′ x)
+abbrev Right : Row → Type 0
+Right (row s s′ x) = (verdict s x ≡ passes) × Fails (verdict s′ x)
 
-right : Mark → List Row → Bool
-right mark [] = true
-right mark (row s s′ x ∷ rs) = isPass (verdict mark s x) && isFail (verdict mark s′ x) && right mark rs
+right : List Row → Bool
+right [] = true
+right (row s s′ x ∷ rs) = isPass (verdict s x) && isFail (verdict s′ x) && right rs
 
-right-out : (mark : Mark) (rs : List Row) → T (right mark rs) → Each (Right mark) rs
+right-out : (rs : List Row) → T (right rs) → Each Right rs
 unfolding right
-right-out mark [] t = tt
-right-out mark (row s s′ x ∷ rs) t =
-    let both = and-out (isPass (verdict mark s x) && isFail (verdict mark s′ x)) (right mark rs) t in
-    let here = and-out (isPass (verdict mark s x)) (isFail (verdict mark s′ x)) (both .0) in
-    ((isPass-out (verdict mark s x) (here .0), isFail-out (verdict mark s′ x) (here .1)), right-out mark rs (both .1))
+right-out [] t = tt
+right-out (row s s′ x ∷ rs) t =
+    let both = and-out (isPass (verdict s x) && isFail (verdict s′ x)) (right rs) t in
+    let here = and-out (isPass (verdict s x)) (isFail (verdict s′ x)) (both .0) in
+    ((isPass-out (verdict s x) (here .0), isFail-out (verdict s′ x) (here .1)), right-out rs (both .1))
 
--- 02: K1, in each row the walk passes the first search and fails the second; the plans have every link both ways, so they are valid under either mark
-rows-right : (mark : Mark) → Each (Right mark) otherPairs
+-- 02: K1, in each row the walk passes the first search and fails the second
+rows-right : Each Right otherPairs
 unfolding right verdict otherPairs not-bfs not-dfs only-bfs only-dfs lexBfs-not-mcs lexDfs-not-mcs isFail rowsOf rowOf P upTo
     anyBelow firstBelow countBelow member searchOf kindOf arcs placed label condition meets violates
     third isLast isFirst isMiddle judge bitOutside selfLoop oneWay isTwoWay vertexOutside repeated isPass openTests judgeTests firstRefusal judgeAnswer
-rows-right Mark.TwoWay = right-out Mark.TwoWay otherPairs tt
-rows-right Mark.OneWay = right-out Mark.OneWay otherPairs tt
+rows-right = right-out otherPairs tt
 
 -- ---- every pair is in the table, or has a row
 
@@ -239,11 +239,22 @@ pub record ToldApart (mark : Mark) (s s′ : Search) : Type 0 where
   pub passing : judgeAnswer (kindOf s) mark plan walk ≡ passes
   pub failing : Fails (judgeAnswer (kindOf s′) mark plan walk)
 
-told-apart : (mark : Mark) (s s′ : Search) (x : Witness) → Right mark (row s s′ x) → ToldApart mark s s′
-unfolding verdict
+-- the plan is valid, so every link goes both ways, and the other mark gets the same answers
+told-apart : (mark : Mark) (s s′ : Search) (x : Witness) → Right (row s s′ x) → ToldApart mark s s′
+unfolding verdict isTwoWay
 told-apart mark s s′ x right =
-    let o = accepted-ordering (kindOf s) mark (x .plan) (x .walk) (passes-accepts (kindOf s) mark (x .plan) (x .walk) (right .0)) in
-    record { plan = x .plan; walk = x .walk; valid = o .0; ordering = o .1; passing = right .0; failing = right .1 }
+    let passing = same s ∙ right .0 in
+    let o = accepted-ordering (kindOf s) mark (x .plan) (x .walk) (passes-accepts (kindOf s) mark (x .plan) (x .walk) passing) in
+    let f = right .1 in
+    record { plan = x .plan; walk = x .walk; valid = o .0; ordering = o .1; passing = passing; failing = (f .0, f .1, f .2, same s′ ∙ f .3) }
+  where
+    both-ways : BothWays (x .plan)
+    both-ways =
+        valid-both-ways (kindOf s) Mark.TwoWay (x .plan)
+        (accepted-ordering (kindOf s) Mark.TwoWay (x .plan) (x .walk) (passes-accepts (kindOf s) Mark.TwoWay (x .plan) (x .walk) (right .0)) .0) tt
+
+    same : (z : Search) → judgeAnswer (kindOf z) mark (x .plan) (x .walk) ≡ judgeAnswer (kindOf z) Mark.TwoWay (x .plan) (x .walk)
+    same z = either-judge (kindOf z) mark Mark.TwoWay (x .plan) both-ways (x .walk)
 
 module _ (s s′ : Search) where
   samePair : Search → Search → Bool
@@ -253,7 +264,7 @@ module _ (s s′ : Search) where
   hasRow [] = false
   hasRow (row from to x ∷ rs) = samePair from to || hasRow rs
 
-  row-tells : (mark : Mark) (rs : List Row) → Each (Right mark) rs → T (hasRow rs) → ToldApart mark s s′
+  row-tells : (mark : Mark) (rs : List Row) → Each Right rs → T (hasRow rs) → ToldApart mark s s′
   unfolding hasRow samePair
   row-tells mark [] all t = absurd t
   row-tells mark (row from to x ∷ rs) all t = ⊎-elim here (row-tells mark rs (all .1)) (or-out (samePair from to) (hasRow rs) t)
@@ -284,7 +295,7 @@ module _ (s s′ : Search) (other : T (carries s s′) → ⊥) where
   -- fails it for s′,
   pub does-not-carry-over-answers : (mark : Mark) → ToldApart mark s s′
   unfolding accountedFor
-  does-not-carry-over-answers mark = ⊎-elim (λ t. absurd (other t)) (row-tells s s′ mark otherPairs (rows-right mark)) (or-out (carries s s′) (hasRow s s′ otherPairs) (every-pair s s′))
+  does-not-carry-over-answers mark = ⊎-elim (λ t. absurd (other t)) (row-tells s s′ mark otherPairs rows-right) (or-out (carries s s′) (hasRow s s′ otherPairs) (every-pair s s′))
 
   -- and so, of graphs, some ordering passes s and fails s′
   pub does-not-carry-over : (arc : ℕ → ℕ → Bool) × (n : ℕ) × (w : List ℕ) × (k : ℕ)

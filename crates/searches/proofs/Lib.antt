@@ -17,6 +17,6 @@ pub mod Numbered
 pub mod Answers
 pub mod Parts
 pub mod Examples
-pub mod CarryOver
 pub mod Demands
 pub mod Marks
+pub mod CarryOver

@@ -2,6 +2,7 @@
 -- proved of any graph knows none.
 --   broken-off                                a part of a walk on a one-way graph: passes, begins a run, has no violation
 --   five-two-way-open, -judge, -carryOn       refusal 5 is given for two-way graphs only
+--   valid-both-ways                           every link of a valid two-way graph goes both ways
 --   either-open, either-judge, either-carryOn   where every link goes both ways, both marks get the same answers
 --   judge-tests                               and judge's tests are the same
 -- Assumes nothing.
@@ -10,10 +11,10 @@ use mathlib.Core.Logic.{⊎-elim, _↔_}
 use mathlib.Core.Bool.{Bool, true, false, not, _&&_}
 use mathlib.Core.List.{List, [], _∷_}
 use mathlib.Core.Option.{some}
-use Prim.Native.Nat.{ℕ, _≤_}
-use lib.Dec.{T, eqb, eqb-refl, T-not}
+use Prim.Native.Nat.{ℕ, _≤_, _<_}
+use lib.Dec.{T, eqb, eqb-refl, not-T, T-not}
 use lib.ListN.{length, take}
-use Rattle.bitset.proofs.Tests.{and-in, and-out, is-false}
+use Rattle.bitset.proofs.Tests.{and-in, and-out, not-not, same-test, is-false}
 use Rattle.searches.specs.Kind.{searchOf}
 use Rattle.searches.specs.Ordering.{arcs, IsOrdering}
 use Rattle.searches.specs.Run.{BeginsRun}
@@ -21,7 +22,7 @@ use Rattle.searches.specs.Violation.{Violates, passes, refused}
 use Rattle.searches.specs.Answer.{oneWay, isTwoWay, BothWays, openTests, judgeTests, listTests, carryOnTests, firstRefusal, Accepts, Refuses}
 use Rattle.searches.specs.Answer.{judgeAnswer, openAnswer, carryOnAnswer, carryOnOutput}
 use Rattle.searches.specs.declared.Mark.{Mark}
-use Rattle.searches.proofs.Refusals.{oneWay-out}
+use Rattle.searches.proofs.Refusals.{oneWay-in, oneWay-out}
 use Rattle.searches.proofs.Demands.{judge-refuses, open-refuses, carryOn-refuses, part-as-run, part-unfaulted}
 
 -- ---- broken off on a one-way graph
@@ -73,6 +74,16 @@ module _ (kind : ℕ) (rows : List ℕ) where
 both-ways-none : (rows : List ℕ) → BothWays rows → oneWay rows ≡ false
 both-ways-none rows both =
     is-false (oneWay rows) (λ t. let x = oneWay-out rows t in x .5 (subst (λ (b : Bool). T b) (both (x .0) (x .1) (x .2) (x .3)) (x .4)))
+
+-- in a two-way graph that is not refused with 5 every link goes both ways
+pub valid-both-ways : (kind : ℕ) (mark : Mark) (rows : List ℕ) → Accepts (openTests kind mark rows) → T (isTwoWay mark) → BothWays rows
+unfolding openTests
+valid-both-ways kind mark rows valid two-way u v l h = same-test (arcs rows u v) (arcs rows v u) (back u v l h) (back v u h l)
+  where
+    back : (u v : ℕ) → u < length rows → v < length rows → T (arcs rows u v) → T (arcs rows v u)
+    back u v l h t =
+        not-not (arcs rows v u) (not-T (not (arcs rows v u)) (λ none.
+        valid .1 .1 .1 .1 .0 (and-in (isTwoWay mark) (oneWay rows) two-way (oneWay-in rows u v l h t (T-not (arcs rows v u) none)))))
 
 -- 02: K4, such a plan is refused or not, judged and carried on alike under either mark
 module _ (kind : ℕ) (mark mark′ : Mark) (rows : List ℕ) (both : BothWays rows) where

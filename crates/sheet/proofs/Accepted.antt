@@ -25,7 +25,8 @@ use Rattle.searches.specs.Answer.{isTwoWay, openTests, Accepts}
 use Rattle.searches.specs.declared.Mark.{Mark}
 use Rattle.searches.proofs.Refusals.{accepts-none, none-accepts, bitOutside-out, selfLoop-out, oneWay-out}
 use Rattle.searches.proofs.Answers.{clear, all-inside, none-repeated}
-use Rattle.sheet.specs.Sheet.{pointsOf, linksOf, placesOf, headed, linkStart, fromOf, toOf, beforeFrom, beforeTo, isBelow, linkFitsAt, linkFits, joinedRows}
+use Rattle.sheet.specs.Sheet.{pointsOf, linksOf, placesOf, headed, linkStart, fromOf, toOf, beforeFrom, beforeTo, linkFits, joinedRows}
+use Rattle.lines.specs.Line.{isBelow, linkFitsAt}
 use Rattle.sheet.specs.Sheet.{placeStart, placeAt, placeFits, formed, walkOf, rowsOf, sheetTests, readAnswer}
 use Rattle.sheet.proofs.Form.{head-out, formed-out}
 use Rattle.sheet.proofs.Sheets.{tabulate-length, tabulate-at}

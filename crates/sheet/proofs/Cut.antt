@@ -24,7 +24,8 @@ use Rattle.searches.specs.Ordering.{at}
 use Rattle.searches.specs.Answer.{firstRefusal}
 use Rattle.fields.specs.Field.{isFieldAt, fieldAt}
 use Rattle.fields.proofs.Fields.{columns}
-use Rattle.sheet.specs.Sheet.{pointsOf, linksOf, placesOf, headed, linkStart, fromOf, toOf, beforeFrom, beforeTo, linkFitsAt, linkFits}
+use Rattle.sheet.specs.Sheet.{pointsOf, linksOf, placesOf, headed, linkStart, fromOf, toOf, beforeFrom, beforeTo, linkFits}
+use Rattle.lines.specs.Line.{linkFitsAt}
 use Rattle.sheet.specs.Sheet.{placeStart, placeAt, placeFits, formed, sheetTests, readAnswer, lineFits, stopsIn, stoppedWith, stoppedIn}
 use Rattle.sheet.specs.Lines.{heldUnless, heldIn}
 use Rattle.sheet.specs.Written.{longest}

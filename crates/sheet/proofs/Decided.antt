@@ -21,7 +21,7 @@ use Rattle.searches.proofs.Refusals.{none-accepts}
 use Rattle.sheet.specs.Sheet.{pointsOf, placesOf, headed, formed, walkOf, sheetTests, readAnswer, stopsIn, stoppedWith, stoppedIn}
 use Rattle.sheet.specs.Lines.{placedBytes, heldUnless}
 use Rattle.sheet.specs.Parsing.{parsedOf, parsedTests, parsedAnswer, parsedLine, Readable}
-use Rattle.sheet.specs.declared.lines.Parsed.{Parsed}
+use Rattle.lines.specs.declared.Parsed.{Parsed}
 use Rattle.sheet.proofs.Sheets.{outside-same, repeated-same, byte-point, all-inside, held-of, refused-late, points-few, places-few}
 use Rattle.sheet.proofs.Ends.{large, few-small, parsed-agrees}
 

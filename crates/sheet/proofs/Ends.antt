@@ -17,8 +17,9 @@ use Rattle.bitset.proofs.Tests.{is-true, is-false, decided, below-or, cond-yes,
 use Rattle.bitset.proofs.Below.{all-in}
 use Rattle.sheet.specs.Sheet.{pointsOf, linksOf, placesOf, headed, linkFits, placeStart, placeFits, formed, lineFits, stopsIn, joinedRows}
 use Rattle.sheet.specs.Lines.{beyond, placedBytes}
-use Rattle.sheet.specs.Parsing.{blank, halted, begun, headRead, endRead, nextLine, step, steps, parsedOf}
-use Rattle.sheet.specs.declared.lines.Parsed.{Parsed}
+use Rattle.sheet.specs.Parsing.{blank, step, steps, parsedOf}
+use Rattle.lines.specs.Line.{halted, begun, headRead, endRead, nextLine}
+use Rattle.lines.specs.declared.Parsed.{Parsed}
 use Rattle.sheet.proofs.Form.{first-out, fits-before, out-there, not-large, head-out, formed-out, line-link, line-place}
 use Rattle.sheet.proofs.Sheets.{bytes-length}
 use Rattle.sheet.proofs.Stopping.{stops-at}

@@ -1,6 +1,5 @@
 -- The form of a sheet, part by part.
 --   first-out n f            the first number below n at which a test fails;   fits-before, out-there   it holds before, and fails there
---   numbers-out              the test on line 1: its numbers are below 10000, and it ends
 --   not-large                n and k are not too large
 --   head-out                 line 1 has the form
 --   formed-out               the later lines have it, and nothing follows them
@@ -17,6 +16,7 @@ use Rattle.bitset.specs.Below.{allBelow, firstBelow}
 use Rattle.bitset.proofs.Tests.{and-out, not-not, or-inl, or-inr, cond-yes, cond-no}
 use Rattle.bitset.proofs.Below.{first, all-out}
 use Rattle.searches.specs.Ordering.{at}
+use Rattle.lines.proofs.LineByLine.{numbers-out}
 use Rattle.sheet.specs.Sheet.{pointsOf, linksOf, placesOf, headed, linkFits, placeStart, placeFits, formed, lineFits}
 
 -- ---- the first number at which a test fails
@@ -32,12 +32,6 @@ module _ (n : ℕ) (f : ℕ → Bool) where
   out-there l t = T-not (f first-out) (first n (λ i. not (f i)) .holds l) t
 
 -- ---- the tests on a sheet
-
-pub numbers-out : (n m k : ℕ) (ends : Bool) → T (((ltb n 10000 && ltb m 10000) && ltb k 10000) && ends) → (m < 10000) × (k < 10000) × T ends
-numbers-out n m k ends t =
-    let all = and-out ((ltb n 10000 && ltb m 10000) && ltb k 10000) ends t in
-    let two = and-out (ltb n 10000 && ltb m 10000) (ltb k 10000) (all .0) in
-    (ltb→lt m 10000 (and-out (ltb n 10000) (ltb m 10000) (two .0) .1), ltb→lt k 10000 (two .1), all .1)
 
 pub not-large : (n k : ℕ) → (T (ltb 64 n || ltb n k) → ⊥) → (n ≤ 64) × (k ≤ n)
 not-large n k out = (

@@ -21,7 +21,8 @@ use Rattle.bitset.specs.Word.{member, inserted}
 use Rattle.bitset.proofs.Tests.{and-in, and-out, or-inr, or-out, decided, is-false}
 use Rattle.bitset.proofs.Word.{member-inserted, member-zero, inserted-word}
 use Rattle.searches.specs.Ordering.{at}
-use Rattle.sheet.specs.Sheet.{fromOf, toOf, joined, joinedRows}
+use Rattle.sheet.specs.Sheet.{fromOf, toOf, joinedRows}
+use Rattle.lines.specs.Line.{joined}
 
 unfoldable pub joins : ℕ → ℕ → ℕ → ℕ → Bool
 joins u v x y = (eqb v x && eqb u y) || (eqb u x && eqb v y)

@@ -1,5 +1,4 @@
 pub mod Form
-pub mod LineByLine
 pub mod Sheets
 pub mod Joined
 pub mod Accepted

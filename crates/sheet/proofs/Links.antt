@@ -24,7 +24,8 @@ use Rattle.searches.specs.declared.Mark.{Mark}
 use Rattle.searches.proofs.Ordering.{ordering-fits}
 use Rattle.searches.proofs.Refusals.{bitOutside-in, selfLoop-in, oneWay-in}
 use Rattle.searches.proofs.Answers.{valid-small}
-use Rattle.sheet.specs.Sheet.{pointsOf, linksOf, fromOf, toOf, beforeFrom, beforeTo, isBelow, rowsOf}
+use Rattle.sheet.specs.Sheet.{pointsOf, linksOf, fromOf, toOf, beforeFrom, beforeTo, rowsOf}
+use Rattle.lines.specs.Line.{isBelow}
 use Rattle.sheet.specs.Written.{isLink, linkList}
 use Rattle.sheet.proofs.Standing.{equal-test}
 use Rattle.sheet.proofs.Joined.{joins, joins-in, joins-out}

@@ -17,11 +17,13 @@ use lib.Dec.{T, ltb, leb, eqb, not-T, T-not}
 use Rattle.bitset.proofs.Tests.{not-not}
 use Rattle.searches.specs.Ordering.{at}
 use Rattle.fields.specs.Field.{fieldAt}
-use Rattle.sheet.specs.Sheet.{linkFitsAt}
-use Rattle.sheet.specs.Parsing.{blank, halted, begun, headRead, linkAdded, linkRead, placeAdded, placeRead, endRead, nextLine, advanced, advancedBy, step, steps, parsedOf, Sound}
-use Rattle.sheet.specs.declared.lines.Parsed.{Parsed}
+use Rattle.lines.specs.Line.{linkFitsAt}
+use Rattle.sheet.specs.Parsing.{blank, advanced, advancedBy, step, steps, parsedOf}
+use Rattle.lines.specs.Line.{halted, begun, headRead, linkAdded, linkRead, placeAdded, placeRead, endRead, nextLine, Sound}
+use Rattle.lines.specs.declared.Parsed.{Parsed}
 use Rattle.sheet.specs.declared.reader.Progress.{Progress}
-use Rattle.sheet.proofs.Form.{numbers-out, not-large}
+use Rattle.lines.proofs.LineByLine.{numbers-out}
+use Rattle.sheet.proofs.Form.{not-large}
 
 -- what holds of both sides holds of the choice
 either : (P : Parsed → Type 0) (c : Bool) (x y : Parsed) → (T c → P x) → ((T c → ⊥) → P y) → P (cond c x y)

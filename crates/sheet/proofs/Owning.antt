@@ -28,11 +28,11 @@ use denote.Slice.{sliceVal, ShrSlice}
 use denote.Steps.{nothing, owned}
 use denote.Struct.Laws as LL
 use denote.Struct.Rest.{all-own, own-open, own-shut}
-use Rattle.sheet.specs.declared.lines.Parsed.{Parsed}
+use Rattle.lines.specs.declared.Parsed.{Parsed}
 use Rattle.sheet.specs.declared.reader.Reader.{Reader}
 use Rattle.sheet.specs.declared.reader.Progress.{Progress}
-use Rattle.sheet.proofs.lines.Parsed as D
-use Rattle.sheet.proofs.lines.Parsed.Laws as D′
+use Rattle.lines.proofs.Parsed as D
+use Rattle.lines.proofs.Parsed.Laws as D′
 use Rattle.sheet.proofs.reader.Reader as R
 use Rattle.sheet.proofs.reader.Reader.Laws as R′
 use Rattle.sheet.proofs.reader.Progress as P

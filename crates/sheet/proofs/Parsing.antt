@@ -14,11 +14,13 @@ use lib.Dec.{T, ltb, leb}
 use lib.ListN.{set, replicate}
 use Rattle.bitset.specs.Below.{anyBelow}
 use Rattle.bitset.proofs.Tests.{cond-yes, cond-no}
-use Rattle.sheet.specs.Sheet.{pointsOf, linksOf, placesOf, linkStart, fromOf, toOf, beforeFrom, beforeTo, linkFits, joined, joinedRows, placeStart, placeAt, placeFits}
+use Rattle.sheet.specs.Sheet.{pointsOf, linksOf, placesOf, linkStart, fromOf, toOf, beforeFrom, beforeTo, linkFits, joinedRows, placeStart, placeAt, placeFits}
+use Rattle.lines.specs.Line.{joined}
 use Rattle.sheet.specs.Lines.{beyond, placedBytes}
-use Rattle.sheet.specs.Parsing.{blank, halted, begun, linkAdded, linkRead, placeAdded, placeRead, endRead, nextLine, step, steps}
-use Rattle.sheet.specs.declared.lines.Parsed.{Parsed}
-use Rattle.sheet.proofs.LineByLine.{chosen-first, chosen-second, link-due, AtPlaces, place-due}
+use Rattle.sheet.specs.Parsing.{blank, step, steps}
+use Rattle.lines.specs.Line.{halted, begun, linkAdded, linkRead, placeAdded, placeRead, endRead, nextLine}
+use Rattle.lines.specs.declared.Parsed.{Parsed}
+use Rattle.lines.proofs.LineByLine.{chosen-first, chosen-second, link-due, AtPlaces, place-due}
 
 -- ---- the line that is due
 

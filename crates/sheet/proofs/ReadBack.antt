@@ -18,7 +18,8 @@ use Rattle.bitset.proofs.Below.{any-out, any-at, any-same}
 use Rattle.bitset.proofs.Word.{equal-members}
 use Rattle.searches.specs.Ordering.{arcs, at, IsOrdering}
 use Rattle.searches.proofs.Ordering.{ordering-fits}
-use Rattle.sheet.specs.Sheet.{pointsOf, linksOf, placesOf, fromOf, toOf, beforeFrom, beforeTo, isBelow, placeAt, tabulate, walkOf, rowsOf}
+use Rattle.sheet.specs.Sheet.{pointsOf, linksOf, placesOf, fromOf, toOf, beforeFrom, beforeTo, placeAt, tabulate, walkOf, rowsOf}
+use Rattle.lines.specs.Line.{isBelow}
 use Rattle.sheet.specs.Written.{linkList}
 use Rattle.sheet.proofs.Sheets.{tabulate-length, tabulate-at}
 use Rattle.sheet.proofs.Joined.{joins, joins-in, joins-back, joins-out}

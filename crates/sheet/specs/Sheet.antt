@@ -3,11 +3,11 @@
 --   headed b                  line 1 has the form
 --   linkStart j, placeStart b j           where the line of link j, of place j begins
 --   fromOf b j, toOf b j      the two points of link j;   beforeFrom b j, beforeTo b j   of the link before it, 0 and 0 for the first
---   isBelow p q p′ q′         the pair p, q comes before the pair p′, q′
---   linkFitsAt b i n p q, linkFits b j    the line of link j has the form, its points are points, smaller first, and it comes after the one before it
+--   linkFits b j              the line of link j has the form, its points are points, smaller first, and it comes after the one before it (`linkFitsAt` in `Line`
+--                             of `lines`)
 --   placeAt b j               the number in the line of place j;   placeFits b j   the line has the form
 --   formed b                  all lines after the first have the form, and nothing follows
---   joined u v rows, joinedRows b j       the rows with one link more, and with the first j links
+--   joinedRows b j            the rows with the first j links (`joined` there)
 --   tabulate k f              the list of f 0 to f (k - 1)
 --   walkOf b, rowsOf b        the walk and the rows that the sheet holds
 --   sheetTests b              what is refused: numbers and tests in 01's order                      [01: the sheet, checks]
@@ -16,16 +16,16 @@
 --   stopsIn b                 the first line, counted from 1, that has not the form; where all have it, the one after the last
 --   stoppedIn b               that line where the sheet is refused with 11, else 0;   stoppedWith   the same by the answer
 use Prim.Native.Nat.{ℕ, zero, suc, _+_, _-_, _*_}
-use mathlib.Core.Bool.{Bool, cond, not, _&&_, _||_}
+use mathlib.Core.Bool.{Bool, cond, not, _&&_}
 use mathlib.Core.List.{List, [], _∷_, _++_}
 use mathlib.Core.Option.{Option, none, some}
 use lib.Dec.{ltb, eqb}
-use lib.ListN.{length, take, set, replicate}
+use lib.ListN.{length, take, replicate}
 use Rattle.bitset.specs.Below.{allBelow, firstBelow}
-use Rattle.bitset.specs.Word.{inserted}
 use Rattle.searches.specs.Ordering.{at}
 use Rattle.searches.specs.Answer.{vertexOutside, repeated, firstRefusal}
 use Rattle.fields.specs.Field.{fieldAt}
+use Rattle.lines.specs.Line.{linkFitsAt, joined}
 
 unfoldable pub pointsOf : List ℕ → ℕ
 pointsOf b = fieldAt b 0
@@ -59,23 +59,8 @@ unfoldable pub beforeTo : List ℕ → ℕ → ℕ
 beforeTo b zero = 0
 beforeTo b (suc j) = toOf b j
 
-unfoldable pub isBelow : ℕ → ℕ → ℕ → ℕ → Bool
-isBelow p q p′ q′ = ltb p p′ || (eqb p p′ && ltb q q′)
-
--- the line at i has the form, its two points are below n, smaller first, and come after p, q
-unfoldable pub linkFitsAt : List ℕ → ℕ → ℕ → ℕ → ℕ → Bool
-linkFitsAt b i n p q =
-    ((ltb (fieldAt b i) (fieldAt b (i + 4)) && ltb (fieldAt b (i + 4)) n) && eqb (at b (i + 4 + 4)) 10)
-    && isBelow p q (fieldAt b i) (fieldAt b (i + 4))
-
 unfoldable pub linkFits : List ℕ → ℕ → Bool
 linkFits b j = linkFitsAt b (linkStart j) (pointsOf b) (beforeFrom b j) (beforeTo b j)
-
--- both rows get their bit
-unfoldable pub joined : ℕ → ℕ → List ℕ → List ℕ
-joined u v rows =
-    let half = set rows u (inserted (at rows u) v) in
-    set half v (inserted (at half v) u)
 
 unfoldable pub joinedRows : List ℕ → ℕ → List ℕ
 joinedRows b zero = replicate 64 0

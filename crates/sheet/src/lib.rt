@@ -1,4 +1,3 @@
 // A paper record as bytes: read into rows and an ordering.
-mod lines;
 pub mod read;
 mod reader;

@@ -1,7 +1,7 @@
 // A sheet read into rows and an ordering.
-use crate::lines::Content;
-use crate::lines::Parsed;
 use crate::reader;
+use lines::Content;
+use lines::Parsed;
 use searches::Outcome;
 use searches::Refusal;
 ghost use mathlib.Core.Path.{_≡_};
@@ -57,7 +57,7 @@ fn decide(parsed: Parsed) -> Answer
     if content.outside {
         return refused(Refusal::VertexOutOfRange, 0);
     }
-    if checks::repeated(&ordering, content.k) {
+    if lookup::entries::repeated(&ordering, content.k) {
         return refused(Refusal::RepeatedVertex, 0);
     }
     Answer {

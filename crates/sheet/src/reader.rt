@@ -1,11 +1,12 @@
 // The one reader of a sheet: its bytes, and how far they have been read. It is made once and goes from line to line; nothing else keeps an
 // offset. The prover does not cover functions over a struct that holds a slice, so these three are proved by hand. The bound 900000 only keeps
 // sums small: 10,065 steps of at most 13 bytes stay far below it.
-use crate::lines::Parsed;
-use crate::lines::next_line;
+use lines::Parsed;
+use lines::next_line;
 ghost use mathlib.Core.Path.{_≡_};
 ghost use Prim.Native.Nat.{_+_, _*_, _<_};
-ghost use Rattle.sheet.specs.Parsing.{advanced, advancedBy, blank, parsedOf, Sound};
+ghost use Rattle.sheet.specs.Parsing.{advanced, advancedBy, blank, parsedOf};
+ghost use Rattle.lines.specs.Line.{Sound};
 
 pub struct Reader<'a> {
     pub sheet: &'a [u8],

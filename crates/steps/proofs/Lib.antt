@@ -1,10 +1,5 @@
 pub mod Representation
-pub mod Transposition
 pub mod Tallying
 pub mod Tracking
-pub mod Growing
 pub mod Replaying
 pub mod Placing
-pub mod Completing
-pub mod Searching
-pub mod Tail

@@ -22,9 +22,10 @@ use Rattle.searches.specs.Kind.{Search}
 use Rattle.searches.specs.Ordering.{at, placed, IsOrdering}
 use Rattle.searches.proofs.Ordering.{ordering-unplaced}
 use Rattle.labels.specs.Weights.{Consistent}
-use Rattle.labels.specs.Words.{labelWith, smallestWith, largestWith, spreadBy, spreadTo, smallestTo, largestTo, beatenIn, openIn}
+use Rattle.labels.specs.Words.{labelWith, smallestWith, largestWith, spreadBy, spreadTo, smallestTo, largestTo}
+use Rattle.offers.specs.Open.{beatenIn, openIn}
 use Rattle.labels.proofs.Weights.{weighed-none}
-use Rattle.labels.proofs.Narrowing.{all-offered}
+use Rattle.offers.proofs.Narrowing.{all-offered}
 use Rattle.steps.specs.Steps.{grownBy, keptAfter, labelsAfter, smallestAfter, largestAfter, freeAfter, placedAfter, stopsAt, Staged, Placeable, Replayable}
 use Rattle.steps.specs.declared.place.Stage.{Stage}
 use Rattle.steps.proofs.Representation.{free-unplaced}
@@ -43,7 +44,7 @@ module _ (s : Search) (rows w : List ℕ) (k : ℕ) where
     pub largest-after : largest ≡ largestAfter rows w j
     pub set : stage .set ≡ placedAfter w j
     pub unplaced : stage .free ≡ freeAfter (length rows) w j
-    pub staged : Staged s labels weights stage
+    pub staged : Staged s labels weights stage j
     pub unbeaten : (i : ℕ) → i < j → T (stopsAt s rows w i) → ⊥
 
   module _ {columns labels₀ smallest₀ largest₀ weights₀ : List ℕ} (x : Replayable rows columns w k labels₀ smallest₀ largest₀ weights₀) where
@@ -60,6 +61,7 @@ module _ (s : Search) (rows w : List ℕ) (k : ℕ) where
       set = refl;
       unplaced = e;
       staged = record {
+        earlier = λ v q l t. absurd (word.empty-back (none v l) q t);
         weighed = weighed-none s (x .empty) (x .no-weight);
         offers = all-offered s labels₀ all (subst (λ (y : ℕ). y < 2 ^ 64) (sym e) (word.fullBelow-word (length rows))) (λ v l _. none v l);
         covers = λ v l _. none v l;
@@ -109,7 +111,7 @@ module _ (s : Search) (rows w : List ℕ) (k : ℕ) where
       pub replay-next : (labels′ smallest′ largest′ : List ℕ) {weights′ : List ℕ} (stage′ : Stage) → (T (stopsAt s rows w j) → ⊥)
           → labels′ ≡ spreadTo (grownBy rows (stage .free) b) j labels → smallest′ ≡ smallestTo (grownBy rows (stage .free) b) j smallest
           → largest′ ≡ largestTo (grownBy rows (stage .free) b) j largest → stage′ .set ≡ inserted (stage .set) b → stage′ .free ≡ removed (stage .free) b
-          → Staged s labels′ weights′ stage′ → Replaying labels′ smallest′ largest′ weights′ stage′ (j + 1)
+          → Staged s labels′ weights′ stage′ (j + 1) → Replaying labels′ smallest′ largest′ weights′ stage′ (j + 1)
       unfolding keptAfter placedAfter freeAfter
       replay-next labels′ smallest′ largest′ {weights′} stage′ go-on e e-smallest e-largest i f staged =
           subst (λ (m : ℕ). Replaying labels′ smallest′ largest′ weights′ stage′ m) (sym (add-one j)) (record {
@@ -119,7 +121,7 @@ module _ (s : Search) (rows w : List ℕ) (k : ℕ) where
             largest-after = grown (largestWith j) e-largest (r .largest-after);
             set = i ∙ ap₂ (λ (y v : ℕ). inserted y v) (r .set) h;
             unplaced = f ∙ ap₂ (λ (y v : ℕ). removed y v) (r .unplaced) h;
-            staged = staged;
+            staged = subst (Staged s labels′ weights′ stage′) (add-one j) staged;
             unbeaten = λ i h. before i (below-suc j i h);
           })
         where

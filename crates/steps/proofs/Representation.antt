@@ -30,8 +30,10 @@ use Rattle.searches.proofs.Reason.{Reason, meets-in, meets-out, outranks→reas
 use Rattle.searches.proofs.Ordering.{ordering-fits}
 use Rattle.searches.proofs.Level.{alike-in, alike-out, except-mns}
 use Rattle.searches.proofs.Comparing.{compared-mns, compared-ranked}
-use Rattle.labels.specs.Words.{aheadIn, comparedIn, labelWith, changedBy, beatenIn, openIn}
-use Rattle.labels.proofs.Joining.{suc-split, member-joined}
+use Rattle.labels.specs.Words.{aheadIn, comparedIn, labelWith, changedBy}
+use Rattle.offers.specs.Open.{beatenIn, openIn}
+use Rattle.bitset.proofs.Joining.{suc-split}
+use Rattle.labels.proofs.Spreading.{member-joined}
 use Rattle.labels.proofs.Spreading.{spread-length, spread-at}
 use Rattle.steps.specs.Steps.{keptAfter, labelsAfter, freeAfter, grownBy}
 

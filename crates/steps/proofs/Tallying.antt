@@ -22,8 +22,8 @@ use Rattle.searches.specs.Label.{label}
 use Rattle.searches.proofs.Ordering.{ordering-unplaced, ordering-fits}
 use Rattle.labels.specs.Weights.{tally}
 use Rattle.labels.specs.Words.{labelWith, joinedIn}
-use Rattle.labels.proofs.Joining.{member-joined}
-use Rattle.steps.specs.Columns.{Transposed}
+use Rattle.labels.proofs.Spreading.{member-joined}
+use Rattle.lookup.specs.Columns.{Transposed}
 use Rattle.steps.specs.Steps.{labelsAfter, freeAfter, placedAfter}
 use Rattle.steps.proofs.Representation.{cut-below, free-vertex, free-earlier, kept-start, kept-next, label-members}
 

@@ -24,7 +24,7 @@ use Rattle.searches.proofs.Ordering.{ordering-fits}
 use Rattle.searches.proofs.Running.{smallest-found, smallest-absent, largest-found, largest-absent, unchanged-unless-grown, smallest-begins, largest-moves, smallest-stays, smallest-kept, largest-kept, smallest-none, largest-none}
 use Rattle.labels.specs.Weights.{smallestByte, largestByte, Consistent}
 use Rattle.labels.specs.Words.{labelWith, smallestWith, largestWith, changedBy}
-use Rattle.steps.specs.Columns.{Transposed}
+use Rattle.lookup.specs.Columns.{Transposed}
 use Rattle.steps.specs.Steps.{labelsAfter, smallestAfter, largestAfter, freeAfter, placedAfter}
 use Rattle.steps.proofs.Representation.{cut-same, cut-below, free-vertex, free-earlier, kept-length, kept-start, kept-next, label-members}
 use Rattle.steps.proofs.Tallying.{tallied-after}

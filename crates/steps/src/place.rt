@@ -1,9 +1,10 @@
 // The step that places one vertex more.
-use crate::lookup::row_of;
+use lookup::row_of;
 use searches::Kind;
 use searches::Position;
 use searches::Vertex;
 ghost use mathlib.Core.Path.{_≡_};
+ghost use Prim.Native.Nat.{_+_};
 ghost use Rattle.bitset.specs.Word.{inserted, removed};
 ghost use Rattle.searches.specs.Kind.{searchOf};
 ghost use Rattle.labels.specs.Words.{spreadTo, smallestTo, largestTo};
@@ -37,7 +38,7 @@ pub fn place(
     ensures labels { λ r. ⌜ now (labels .exit) ≡ spreadTo (grownBy (now (rows .entry)) (stage .free) (vertex .0)) (position .0) (now (labels .entry)) ⌝ }
     ensures smallest { λ r. ⌜ now (smallest .exit) ≡ smallestTo (grownBy (now (rows .entry)) (stage .free) (vertex .0)) (position .0) (now (smallest .entry)) ⌝ }
     ensures largest { λ r. ⌜ now (largest .exit) ≡ largestTo (grownBy (now (rows .entry)) (stage .free) (vertex .0)) (position .0) (now (largest .entry)) ⌝ }
-    ensures staged { λ r. ⌜ Staged (searchOf (kind .0)) (now (labels .exit)) (now (weights .exit)) r ⌝ }
+    ensures staged { λ r. ⌜ Staged (searchOf (kind .0)) (now (labels .exit)) (now (weights .exit)) r (position .0 + 1) ⌝ }
 {
     let number = vertex.0 as usize;
     let row = row_of(rows, vertex);
@@ -46,6 +47,7 @@ pub fn place(
     let reached = bitset::union(stage.reached, row);
     let grown = bitset::common(row, free);
     let stay = bitset::remove(stage.offered, number);
+    let early = bitset::common(stay, stage.reached);
     labels::spread(
         kind,
         columns,
@@ -57,7 +59,16 @@ pub fn place(
         grown,
         position,
     );
-    let offered = labels::leaders::offered_after(kind, labels, weights, free, reached, stay, grown);
+    let offered = offers::leaders::offered_after(
+        kind,
+        labels,
+        weights,
+        free,
+        reached,
+        early,
+        stay,
+        grown,
+    );
     Stage {
         set,
         free,

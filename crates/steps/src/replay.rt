@@ -1,7 +1,7 @@
 // An ordering placed again, vertex by vertex, until one was not offered.
-use crate::lookup::vertex_at;
 use crate::place::Stage;
 use crate::place::place;
+use lookup::vertex_at;
 use searches::Kind;
 use searches::Position;
 ghost use mathlib.Core.Path.{_≡_};
@@ -37,7 +37,7 @@ pub fn replay(
     ensures labels { λ r. ⌜ now (labels .exit) ≡ labelsAfter (now (rows .entry)) (now (ordering .entry)) (r .count) ⌝ }
     ensures smallest { λ r. ⌜ now (smallest .exit) ≡ smallestAfter (now (rows .entry)) (now (ordering .entry)) (r .count) ⌝ }
     ensures largest { λ r. ⌜ now (largest .exit) ≡ largestAfter (now (rows .entry)) (now (ordering .entry)) (r .count) ⌝ }
-    ensures staged { λ r. ⌜ Staged (searchOf (kind .0)) (now (labels .exit)) (now (weights .exit)) (r .stage) ⌝ }
+    ensures staged { λ r. ⌜ Staged (searchOf (kind .0)) (now (labels .exit)) (now (weights .exit)) (r .stage) (r .count) ⌝ }
 {
     let all = bitset::full_below(rows.len());
     let mut stage = Stage {
@@ -48,7 +48,7 @@ pub fn replay(
     };
     for j in 0..k {
         let b = vertex_at(ordering, Position(j));
-        if !labels::choice::is_open(
+        if !offers::leaders::is_open(
             kind,
             labels,
             weights,

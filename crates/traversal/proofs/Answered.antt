@@ -20,8 +20,9 @@ use Rattle.searches.specs.Answer.{firstRefusal}
 use Rattle.searches.proofs.Run.{offered-out}
 use Rattle.searches.proofs.Refusals.{none-accepts}
 use Rattle.traversal.specs.declared.Traversal.{Traversal}
-use Rattle.traversal.specs.State.{plan, walk, wellFormed, offers, setBelow, unlessRefused, placeTests, placeAnswer, takeBackTests, takeBackAnswer, offeredAnswer, offeredSet}
-use Rattle.traversal.proofs.SetBelow.{member-setBelow}
+use Rattle.bitset.specs.Word.{setBelow}
+use Rattle.traversal.specs.State.{plan, walk, wellFormed, offers, unlessRefused, placeTests, placeAnswer, takeBackTests, takeBackAnswer, offeredAnswer, offeredSet}
+use Rattle.bitset.proofs.Joining.{member-setBelow}
 use Rattle.traversal.proofs.WellFormed.{parts}
 
 pub next-handed : {answer : Option ℕ} (next kept : Traversal) → none ≡ answer → next ≡ unlessRefused answer next kept

@@ -4,7 +4,7 @@
 --   length-grow, following-holding   m placings of the last of the tie-break among the offered grow the ordering as carry-on does
 --   full-refused                 where all are placed, placing answers 14
 -- Assumes nothing.
-use Prim.Native.Nat.{ℕ, zero, suc, _+_, _-_, _≤_, _<_}
+use Prim.Native.Nat.{ℕ, zero, suc, _+_, _≤_, _<_}
 use mathlib.Core.Path.{_≡_, refl, sym, ap, _∙_, subst}
 use mathlib.Core.Bool.{Bool}
 use mathlib.Core.Logic.{inl, inr}

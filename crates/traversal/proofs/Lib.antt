@@ -1,10 +1,7 @@
-pub mod Unused
-pub mod SetBelow
 pub mod WellFormed
 pub mod Answered
 pub mod Holding
 pub mod Following
 pub mod Telling
 pub mod Comparing
-pub mod Examples
 pub mod OpenWalk

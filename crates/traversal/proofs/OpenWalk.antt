@@ -25,9 +25,10 @@ use Rattle.searches.proofs.Run.{offered-out}
 use Rattle.searches.proofs.Refusals.{refuses-first, first-refuses}
 use Rattle.searches.proofs.Parts.{first-bytes}
 use Rattle.traversal.specs.declared.Traversal.{Traversal}
-use Rattle.traversal.specs.State.{plan, walk, wellFormed, WellFormed, offers, setBelow, nothingOpen, opened, offeredSet, placeTests, placeAnswer, grown, takeBackTests, takeBackAnswer, shrunk}
+use Rattle.bitset.specs.Word.{setBelow}
+use Rattle.traversal.specs.State.{plan, walk, wellFormed, WellFormed, offers, nothingOpen, opened, offeredSet, placeTests, placeAnswer, grown, takeBackTests, takeBackAnswer, shrunk}
 use Rattle.traversal.specs.Moves.{Move, placing, takingBack, moved, after, remains, remaining, holding, lastOffered, following}
-use Rattle.traversal.proofs.SetBelow.{set-none}
+use Rattle.bitset.proofs.Joining.{set-none}
 use Rattle.traversal.proofs.WellFormed.{well-formed-out, well-formed-in}
 use Rattle.traversal.proofs.Answered.{kept-handed, mark-handed}
 use Rattle.traversal.proofs.Holding.{Sound, distinct, fits, passing, holding-walk, holding-formed, opened-holding, grown-holding, shrunk-holding, place-accepted}

@@ -25,14 +25,16 @@ use Rattle.searches.specs.Answer.{isPass, judgeAnswer}
 use Rattle.searches.proofs.Ordering.{ordering-fits}
 use Rattle.searches.proofs.Answers.{passes-accepts, accepted-ordering, ordering-accepted, judge-accepted, isPass-in, isPass-out}
 use Rattle.labels.specs.Weights.{weightOf}
-use Rattle.labels.specs.Words.{Weighed, comparedIn, openIn}
+use Rattle.labels.specs.Words.{Weighed, comparedIn}
+use Rattle.offers.specs.Open.{openIn}
 use Rattle.steps.specs.Steps.{labelsAfter, freeAfter}
 use Rattle.steps.proofs.Representation.{open-offered, free-unplaced, compared-same}
 use Rattle.engine.specs.declared.after.Moment.{Moment}
 use Rattle.engine.specs.Moments.{noMoment, momentOf, momentAfter}
 use Rattle.traversal.specs.declared.Traversal.{Traversal}
-use Rattle.traversal.proofs.Unused.{unused-out, unused-in}
-use Rattle.traversal.specs.State.{plan, walk, usedFrom, wellFormed, surveyed, WellFormed, offers}
+use Rattle.lookup.proofs.Unused.{unused-out, unused-in}
+use Rattle.traversal.specs.State.{plan, walk, wellFormed, surveyed, WellFormed, offers}
+use Rattle.lookup.specs.Unused.{usedFrom}
 use Rattle.traversal.specs.Compare.{stance}
 
 -- the tests one by one

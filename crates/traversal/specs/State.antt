@@ -1,11 +1,9 @@
 -- The open walk: when it is well formed, and what each call answers and hands back.
 --   state kind mark n rows k ordering   the open walk of these parts
 --   plan t, walk t                   its graph's rows, and its ordering                                            [01: plan, walk]
---   usedAt m l i, usedFrom m l       entry i of l is behind the first m and not 0; some of the 64 is
 --   wellFormed t                     the test;   WellFormed t   the same condition by condition                    [01: well formed]
 --   surveyed t                       the unplaced vertices, the labels and their weights after the walk; none and empty where t is not well formed
 --   offers t v                       v is offered after the walk                                                   [01: offered]
---   setBelow n f                     the numbers below n at which f holds, as a word
 --   placeTests, takeBackTests        what is refused: numbers and tests in 01's order                              [01: from the state]
 --   unlessRefused answer next kept   the state that a call hands back: the next one, or the one that is kept
 --   nothingOpen                      the two-way open walk of kind 0 with n = 0 and everything else 0
@@ -13,15 +11,14 @@
 --   offeredAnswer t, offeredSet t    what offered answers
 --   placeAnswer t v, grown t v       what placing v answers, and hands back                                        [01: placing]
 --   takeBackAnswer t, shrunk t       likewise, of taking back                                                      [01: taking back]
-use Prim.Native.Nat.{ℕ, zero, suc, _+_, _-_, _≤_, _<_}
+use Prim.Native.Nat.{ℕ, _+_, _-_, _≤_, _<_}
 use mathlib.Core.Path.{_≡_}
 use mathlib.Core.Bool.{Bool, cond, not, _&&_}
 use mathlib.Core.List.{List, [], _∷_, _++_}
 use mathlib.Core.Option.{Option, none, some}
 use lib.Dec.{leb, eqb}
 use lib.ListN.{length, take, set, replicate}
-use Rattle.bitset.specs.Below.{anyBelow}
-use Rattle.bitset.specs.Word.{inserted}
+use Rattle.bitset.specs.Word.{setBelow}
 use Rattle.searches.specs.Kind.{searchOf}
 use Rattle.searches.specs.Ordering.{arcs, at, placed, IsOrdering}
 use Rattle.searches.specs.Run.{offered}
@@ -29,6 +26,7 @@ use Rattle.searches.specs.Violation.{passes, judge}
 use Rattle.searches.specs.Answer.{isPass, openTests, Accepts, firstRefusal, judgeAnswer, openAnswer}
 use Rattle.searches.specs.declared.Kind.{Kind}
 use Rattle.searches.specs.declared.Mark.{Mark}
+use Rattle.lookup.specs.Unused.{usedFrom}
 use Rattle.engine.specs.declared.after.Moment.{Moment}
 use Rattle.engine.specs.Moments.{noMoment, momentOf}
 use Rattle.traversal.specs.declared.Traversal.{Traversal}
@@ -43,12 +41,6 @@ unfoldable pub walk : Traversal → List ℕ
 walk t = take (t .k) (t .ordering)
 
 -- ---- well formed
-
-unfoldable pub usedAt : ℕ → List ℕ → ℕ → Bool
-usedAt m l i = leb m i && not (eqb (at l i) 0)
-
-unfoldable pub usedFrom : ℕ → List ℕ → Bool
-usedFrom m l = anyBelow 64 (usedAt m l)
 
 unfoldable pub wellFormed : Traversal → Bool
 wellFormed t =
@@ -73,10 +65,6 @@ surveyed t = cond (wellFormed t) (momentOf (searchOf (t .kind .0)) (plan t) (wal
 
 unfoldable pub offers : Traversal → ℕ → Bool
 offers t v = offered (searchOf (t .kind .0)) (arcs (plan t)) (t .n) (walk t) (t .k) v
-
-unfoldable pub setBelow : ℕ → (ℕ → Bool) → ℕ
-setBelow zero f = 0
-setBelow (suc n) f = let rest = setBelow n f in cond (f n) (inserted rest n) rest
 
 unfoldable pub offeredAnswer : Traversal → Option ℕ
 offeredAnswer t = firstRefusal ((13, not (wellFormed t)) ∷ [])

@@ -1,7 +1,6 @@
 // The open walk: a graph with its mark, a kind of search, and an ordering that grows and shrinks by one vertex. It is a state by value: each call takes it,
 // and hands it back with the answer. Its fields may hold anything; what is not well formed is refused, and handed back as it came.
 mod comparison;
-mod offers;
 mod refusals;
 mod survey;
 

@@ -1,5 +1,4 @@
 // What is refused to an open walk, in its order.
-use crate::offers;
 use crate::survey;
 use searches::Kind;
 use searches::Mark;

@@ -9,7 +9,8 @@ use borrow.Author.Needs.{needs}
 use Rattle.searches.specs.Ordering.{arcs}
 use Rattle.searches.specs.Answer.{firstRefusal, refusalOf}
 use Rattle.searches.proofs.Refusals.{none-accepts}
-use Rattle.charge.specs.Charge.{product, centsBy, largestProduct, chargeTests, Chargeable, cents, billOf}
+use Rattle.charge.specs.Charge.{product, chargeTests, Chargeable, cents, billOf}
+use Rattle.cents.specs.Cents.{centsBy, largestProduct}
 use Rattle.charge.proofs.Charging.{chargeable-out, length-bounded, entry-bounded, product-bounded, charge-refused, charge-accepted}
 use Rattle.charge.proofs.bill_by.Statement.{statement}
 use Rattle.charge.proofs.bill_by.Tie as tie

@@ -1,7 +1,8 @@
 -- `charge::charge` meets its contract: the bill with halves to the even cent.
 -- Assumes nothing.
 use borrow.Author.Needs.{needs}
-use Rattle.charge.specs.Charge.{centsBy, chargeToEvenAnswer}
+use Rattle.charge.specs.Charge.{chargeToEvenAnswer}
+use Rattle.cents.specs.Cents.{centsBy}
 use Rattle.charge.proofs.charge.Statement.{statement}
 use Rattle.charge.proofs.charge.Tie as tie
 

@@ -1,7 +1,8 @@
 -- `charge::charge_halves_up` meets its contract: the bill with halves up.
 -- Assumes nothing.
 use borrow.Author.Needs.{needs}
-use Rattle.charge.specs.Charge.{centsBy, chargeAnswer}
+use Rattle.charge.specs.Charge.{chargeAnswer}
+use Rattle.cents.specs.Cents.{centsBy}
 use Rattle.charge.proofs.charge_halves_up.Statement.{statement}
 use Rattle.charge.proofs.charge_halves_up.Tie as tie
 

@@ -1,14 +1,11 @@
 -- `charge::charge_refusal` meets its contract: judge's refusal, or after its verdict the first of the tests behind it.
 -- Assumes nothing.
-use mathlib.Core.Path.{_≡_, sym, ap, _∙_}
-use Prim.Native.Nat.{ℕ}
-use native.Mathlib.Omega.{arith}
+use mathlib.Core.Path.{sym, ap, _∙_}
 use denote.Ref.{now}
 use lib.ListN.{length}
 use borrow.Author.Needs.{needs}
-use Rattle.searches.specs.Violation.{passes, fails}
 use Rattle.searches.specs.Answer.{isPass, refusalOf, verdictOf}
-use Rattle.checks.proofs.AfterJudge.{judged-refused, judged-decided}
+use Rattle.checks.proofs.AfterJudge.{judged-refused, passed-decided, failed-decided}
 use Rattle.charge.specs.Charge.{testsAfterJudge, chargeTests}
 use Rattle.charge.proofs.charge_refusal.Statement.{statement}
 use Rattle.charge.proofs.charge_refusal.Tie as tie
@@ -36,18 +33,16 @@ unfolding verdictOf isPass chargeTests
 returns c =
     let a = c .before .before .before .before .before .before .before .args in
     c .refusal-after-judge .ensures
-    ∙ judged-decided (a .kind .0) (a .mark) (now (a .rows)) (now (a .ordering)) (testsAfterJudge (length (now (a .rows))) (now (a .minutes)) (a .rate)) {v = passes}
+    ∙ passed-decided (a .kind .0) (a .mark) (now (a .rows)) (now (a .ordering)) (testsAfterJudge (length (now (a .rows))) (now (a .minutes)) (a .rate))
     (sym (ap verdictOf (c .before .enum-told .given .1)) ∙ c .before .before .before .judge .ensures)
-    (λ r e. let clash : _≡_ {A = ℕ} 0 1 = cc in omega arith)
 
 returns-2 : tie.Need-returns-2
 unfolding verdictOf isPass chargeTests
 returns-2 c =
     let a = c .before .before .before .before .before .before .before .args in
     c .refusal-after-judge2 .ensures
-    ∙ judged-decided (a .kind .0) (a .mark) (now (a .rows)) (now (a .ordering)) (testsAfterJudge (length (now (a .rows))) (now (a .minutes)) (a .rate)) {v = fails _ _ _}
+    ∙ failed-decided (a .kind .0) (a .mark) (now (a .rows)) (now (a .ordering)) (testsAfterJudge (length (now (a .rows))) (now (a .minutes)) (a .rate))
     (sym (ap verdictOf (c .before .enum-told2 .given .1)) ∙ c .before .before .before .judge .ensures)
-    (λ r e. let clash : _≡_ {A = ℕ} 0 1 = cc in omega arith)
 
 returns-3 : tie.Need-returns-3
 unfolding verdictOf refusalOf chargeTests

@@ -14,7 +14,7 @@ use Rattle.bitset.proofs.Passed.{some-found, none-found}
 use Rattle.searches.specs.Ordering.{arcs}
 use Rattle.searches.specs.Answer.{bitOutside, selfLoop, isTwoWay, openTests, number, refusalOf}
 use Rattle.searches.specs.declared.Mark.{Mark}
-use Rattle.checks.specs.Row.{outsideAt, loopAt, refusedAt}
+use Rattle.lookup.specs.Row.{outsideAt, loopAt, refusedAt}
 use Rattle.checks.proofs.Tried.{Tried, tried-none, tried-one, refused-here, accepted-here}
 use Rattle.checks.proofs.open_refusal.Statement.{statement}
 use Rattle.checks.proofs.open_refusal.Tie as tie

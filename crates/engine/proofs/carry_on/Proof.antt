@@ -8,8 +8,8 @@ use denote.Ref.{now}
 use lib.ListN.{length, take}
 use Rattle.searches.specs.Answer.{openTests, listTests, firstRefusal, Accepts, refusalOf}
 use Rattle.bitset.specs.Matrix.{Within}
-use Rattle.steps.specs.Columns.{Transposed}
-use Rattle.steps.proofs.Transposition.{first-columns, columns-within}
+use Rattle.lookup.specs.Columns.{Transposed}
+use Rattle.lookup.proofs.Transposition.{first-columns, columns-within}
 use Rattle.engine.specs.Lists.{Extendable}
 use Rattle.engine.proofs.Calls.{valid-own-transpose, valid-within, carryOn-asked-refused, carryOn-asked-valid, carryOn-asked-accepted, carryOn-asked-last}
 use borrow.Author.Needs.{needs}

@@ -1,6 +1,6 @@
 -- `engine::extend` meets its contract: a start that does not pass is refused, any other is filled up from its end on.
 -- Assumes nothing.
-use mathlib.Core.Path.{_≡_, sym, ap, _∙_}
+use mathlib.Core.Path.{_≡_, sym, ap, _∙_, subst}
 use mathlib.Core.Bool.{Bool, true, cond}
 use mathlib.Core.List.{_++_}
 use mathlib.Core.Option.{Option, none, some}
@@ -14,7 +14,8 @@ use Rattle.searches.specs.Violation.{judge}
 use Rattle.searches.specs.CarryOn.{carryOn}
 use Rattle.searches.specs.Answer.{isPass, refusalOf, number}
 use Rattle.searches.proofs.Ordering.{ordering-fits}
-use Rattle.engine.proofs.Calls.{replayable, stopped-fails, ended-passes, along-ended, filled-carried}
+use Rattle.steps.specs.Steps.{Staged}
+use Rattle.engine.proofs.Calls.{replayable, stopped-fails, ended-passes, whole-ended, along-ended, filled-carried}
 use borrow.Author.Needs.{needs}
 use Rattle.engine.proofs.extend.Statement.{statement}
 use Rattle.engine.proofs.extend.Tie as tie
@@ -66,7 +67,10 @@ fill-requires c κs =
           along-ended (now (a .rows)) (now (a .output)) (a .k) (s .pre .start) (searchOf (a .kind .0)) (r .result .count) (r .ensures .0) (c .before .before .before .before .before .if1 .left)
           (r .ensures .1 .1 .1 .0) (r .ensures .1 .1 .1 .1 .0) (r .ensures .1 .1 .1 .1 .1 .0) (r .ensures .1 .0) (r .ensures .1 .1 .0);
       room = omega (arith, room, fits, length-take (length (now (a .output)) - a .k) (drop (a .k) (now (a .output))), length-drop (a .k) (now (a .output)));
-      staged = r .ensures .1 .1 .1 .1 .1 .1;
+      staged =
+          subst (Staged (searchOf (a .kind .0)) (r .last .1 .1 .1 .1 .1 .0) (r .last .1 .1 .1 .1 .1 .1 .1 .1 .0) (r .result .stage))
+          (whole-ended (now (a .rows)) (now (a .output)) (a .k) (s .pre .start) (searchOf (a .kind .0)) (r .result .count) (r .ensures .0) (c .before .before .before .before .before .if1 .left))
+          (r .ensures .1 .1 .1 .1 .1 .1);
     }
 
 same-length-2 : tie.Need-same-length-2

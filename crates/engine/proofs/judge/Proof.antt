@@ -11,8 +11,8 @@ use Rattle.searches.specs.Ordering.{arcs}
 use Rattle.searches.specs.Violation.{judge as judgeOf}
 use Rattle.searches.specs.Answer.{openTests, judgeTests, firstRefusal, Accepts, judgeAnswer, verdictOf, refusalOf}
 use Rattle.bitset.specs.Matrix.{Within}
-use Rattle.steps.specs.Columns.{Transposed}
-use Rattle.steps.proofs.Transposition.{first-columns, columns-within}
+use Rattle.lookup.specs.Columns.{Transposed}
+use Rattle.lookup.proofs.Transposition.{first-columns, columns-within}
 use Rattle.engine.specs.Lists.{Judgeable}
 use Rattle.engine.proofs.Calls.{valid-own-transpose, valid-within, judge-asked-refused, judge-asked-valid, judge-asked-accepted}
 use Rattle.engine.proofs.judge.Statement.{statement}

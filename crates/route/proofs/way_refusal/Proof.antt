@@ -1,15 +1,12 @@
 -- `route::way_refusal` meets its contract: judge's refusal, or after its verdict the first of the tests behind it.
 -- Assumes nothing.
-use mathlib.Core.Path.{_≡_, sym, ap, _∙_}
-use Prim.Native.Nat.{ℕ}
-use native.Mathlib.Omega.{arith}
+use mathlib.Core.Path.{sym, ap, _∙_}
 use denote.Ref.{now}
 use lib.ListN.{length}
 use borrow.Author.Needs.{needs}
 use Rattle.searches.specs.Kind.{bfs, kindOf, searchOf}
-use Rattle.searches.specs.Violation.{passes, fails}
 use Rattle.searches.specs.Answer.{isPass, refusalOf, verdictOf}
-use Rattle.checks.proofs.AfterJudge.{judged-refused, judged-decided}
+use Rattle.checks.proofs.AfterJudge.{judged-refused, passed-decided, failed-decided}
 use Rattle.route.specs.WayBack.{testsAfterBfs, wayTests}
 use Rattle.route.proofs.way_refusal.Statement.{statement}
 use Rattle.route.proofs.way_refusal.Tie as tie
@@ -37,18 +34,16 @@ unfolding verdictOf isPass wayTests kindOf searchOf
 returns c =
     let a = c .before .before .before .before .before .before .args in
     c .refusal-after-bfs .ensures
-    ∙ judged-decided (kindOf bfs) (a .mark) (now (a .rows)) (now (a .ordering)) (testsAfterBfs (length (now (a .rows))) (now (a .ordering)) (a .vertex .0) (a .room)) {v = passes}
+    ∙ passed-decided (kindOf bfs) (a .mark) (now (a .rows)) (now (a .ordering)) (testsAfterBfs (length (now (a .rows))) (now (a .ordering)) (a .vertex .0) (a .room))
     (sym (ap verdictOf (c .before .enum-told .given .1)) ∙ c .before .before .before .judge .ensures)
-    (λ r e. let clash : _≡_ {A = ℕ} 0 1 = cc in omega arith)
 
 returns-2 : tie.Need-returns-2
 unfolding verdictOf isPass wayTests kindOf searchOf
 returns-2 c =
     let a = c .before .before .before .before .before .before .args in
     c .refusal-after-bfs2 .ensures
-    ∙ judged-decided (kindOf bfs) (a .mark) (now (a .rows)) (now (a .ordering)) (testsAfterBfs (length (now (a .rows))) (now (a .ordering)) (a .vertex .0) (a .room)) {v = fails _ _ _}
+    ∙ failed-decided (kindOf bfs) (a .mark) (now (a .rows)) (now (a .ordering)) (testsAfterBfs (length (now (a .rows))) (now (a .ordering)) (a .vertex .0) (a .room))
     (sym (ap verdictOf (c .before .enum-told2 .given .1)) ∙ c .before .before .before .judge .ensures)
-    (λ r e. let clash : _≡_ {A = ℕ} 0 1 = cc in omega arith)
 
 returns-3 : tie.Need-returns-3
 unfolding verdictOf refusalOf wayTests kindOf searchOf

@@ -6,9 +6,10 @@ use denote.Ref.{now}
 use lib.ListN.{length, take}
 use borrow.Author.Needs.{needs}
 use Rattle.searches.specs.Answer.{openTests, judgeTests, firstRefusal, Accepts, refusalOf}
-use Rattle.steps.specs.Columns.{Transposed}
-use Rattle.steps.proofs.Transposition.{columns-within}
-use Rattle.engine.proofs.Calls.{valid-within, valid-both-ways, replayable, judge-asked-valid, judge-asked-accepted, moment-refused, moment-stopped, moment-ended}
+use Rattle.lookup.specs.Columns.{Transposed}
+use Rattle.lookup.proofs.Transposition.{columns-within}
+use Rattle.searches.proofs.Marks.{valid-both-ways}
+use Rattle.engine.proofs.Calls.{valid-within, replayable, judge-asked-valid, judge-asked-accepted, moment-refused, moment-stopped, moment-ended}
 use Rattle.engine.proofs.after.after.Statement.{statement}
 use Rattle.engine.proofs.after.after.Tie as tie
 

@@ -13,7 +13,7 @@ use Rattle.searches.specs.declared.Outcome.{Outcome}
 use Rattle.searches.specs.declared.Refusal.{Refusal}
 use Rattle.checks.proofs.Tried.{Tried, tried-none, tried-one, refused-here, accepted-here}
 use Rattle.sheet.specs.Parsing.{parsedTests, parsedAnswer, parsedLine}
-use Rattle.sheet.specs.declared.lines.Parsed.{Parsed}
+use Rattle.lines.specs.declared.Parsed.{Parsed}
 use Rattle.sheet.specs.declared.read.Answer.{Answer}
 use Rattle.sheet.proofs.read.decide.Statement.{statement}
 use Rattle.sheet.proofs.read.decide.Tie as tie

@@ -9,7 +9,7 @@ use Rattle.searches.specs.Answer.{refusalOf}
 use Rattle.sheet.specs.Sheet.{readAnswer, stoppedIn}
 use Rattle.sheet.specs.Lines.{heldUnless, heldIn}
 use Rattle.sheet.specs.Parsing.{parsedOf, parsedAnswer, parsedLine, Readable}
-use Rattle.sheet.specs.declared.lines.Parsed.{Parsed}
+use Rattle.lines.specs.declared.Parsed.{Parsed}
 use Rattle.sheet.specs.declared.read.Held.{Held}
 use Rattle.sheet.proofs.Decided.{parsed-answers, parsed-stops, parsed-held, parsed-readable}
 use Rattle.sheet.proofs.read.read.Statement.{statement}

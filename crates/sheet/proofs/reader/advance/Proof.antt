@@ -39,21 +39,21 @@ use denote.Triple.Table.{entered, cited}
 use denote.Triple.Walked.{says, needs, Stays, stay-none, walkOf, goes-none, Walks, ends-at, walked, walk-meets}
 use denote.Exit.{yes}
 use denote.Triple.Clauses.{ensured, lasts}
-use Rattle.sheet.specs.Parsing.{nextLine, Sound}
-use Rattle.sheet.specs.declared.lines.Parsed.{Parsed}
+use Rattle.lines.specs.Line.{nextLine, Sound}
+use Rattle.lines.specs.declared.Parsed.{Parsed}
 use Rattle.sheet.specs.declared.reader.Progress.{Progress}
 use Rattle.sheet.proofs.Onward.{width-small}
 use Rattle.sheet.proofs.Owning.{Goes, OwnGoes, OwnParsed, OwnSlice, goesVal, parsedVal, number, twice, apart, together}
-use Rattle.sheet.proofs.lines.Parsed as D
-use Rattle.sheet.proofs.lines.Parsed.Laws as D′
+use Rattle.lines.proofs.Parsed as D
+use Rattle.lines.proofs.Parsed.Laws as D′
 use Rattle.sheet.proofs.reader.Reader as R
 use Rattle.sheet.proofs.reader.Reader.Laws as R′
 use Rattle.sheet.proofs.reader.Progress as P
 use Rattle.sheet.proofs.reader.Progress.Laws as P′
-use Rattle.sheet.proofs.lines.next_line as next-line
-use Rattle.sheet.proofs.lines.next_line.Symbol as next-line-def
-use Rattle.sheet.proofs.lines.next_line.Symbol.{name as #next-line}
-use Rattle.sheet.proofs.lines.next_line.Met as next-line-thm
+use Rattle.lines.proofs.next_line as next-line
+use Rattle.lines.proofs.next_line.Symbol as next-line-def
+use Rattle.lines.proofs.next_line.Symbol.{name as #next-line}
+use Rattle.lines.proofs.next_line.Met as next-line-thm
 use Rattle.sheet.proofs.reader.advance.Key.{name as #advance}
 use Rattle.sheet.proofs.reader.advance as advance
 use Rattle.sheet.proofs.reader.advance.Statement as stated
@@ -177,4 +177,4 @@ advance-spec 𝓤 H 𝓜 𝓖 𝓡 =
     entered 𝓤 H (tripleOf 𝓤 H (𝓖 .A) advance.signature (advance.spec 𝓤 H (𝓖 .A) (𝓜 .mem) (𝓡 .run)))
     (tables 𝓤 H 𝓜 𝓡 code.env .C) (tables 𝓤 H 𝓜 𝓡 code.env .Λ) #advance code.function (code.unfolded 𝓤 H 𝓜 𝓡)
     (advance-meets 𝓤 H (𝓖 .A) (givenOf 𝓤 H 𝓜 𝓖) (𝓜 .mem) (𝓡 .run) (tablesOf 𝓤 H 𝓜 (tables 𝓤 H 𝓜 𝓡 code.env))
-    (cited 𝓤 H (NextLine 𝓤 H (𝓖 .A) (𝓜 .mem) (𝓡 .run)) 𝓜 𝓡 code.env #next-line next-line-def.routine code.calls-sheet·lines·next-line (next-line-thm.met 𝓤 H 𝓜 𝓖 𝓡)))
+    (cited 𝓤 H (NextLine 𝓤 H (𝓖 .A) (𝓜 .mem) (𝓡 .run)) 𝓜 𝓡 code.env #next-line next-line-def.routine code.calls-lines·next-line (next-line-thm.met 𝓤 H 𝓜 𝓖 𝓡)))

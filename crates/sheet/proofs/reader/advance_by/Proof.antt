@@ -41,7 +41,8 @@ use denote.Triple.Table.{entered, cited}
 use denote.Triple.Walked.{says, needs, Stays, stay-none, walkOf, goes-none, Walks, ends-at, walked, walk-meets}
 use denote.Exit.{yes}
 use denote.Triple.Clauses.{ensured, lasts}
-use Rattle.sheet.specs.Parsing.{advanced, advancedBy, Sound}
+use Rattle.sheet.specs.Parsing.{advanced, advancedBy}
+use Rattle.lines.specs.Line.{Sound}
 use Rattle.sheet.specs.declared.reader.Progress.{Progress}
 use Rattle.sheet.proofs.Onward.{after-none, after-one, after-low, after-sound}
 use Rattle.sheet.proofs.Owning.{Goes, OwnGoes, goesVal, number, twice}

@@ -39,13 +39,14 @@ use denote.Triple.Table.{entered, cited}
 use denote.Triple.Walked.{says, needs, Stays, stay-none, stay-none-slice, walkOf, goes-none, goes-none-slice, Walks, ends-at, walked, walk-meets}
 use denote.Exit.{yes}
 use denote.Triple.Clauses.{ensured, lasts}
-use Rattle.sheet.specs.Parsing.{blank, advancedBy, parsedOf, Sound}
-use Rattle.sheet.specs.declared.lines.Parsed.{Parsed}
+use Rattle.sheet.specs.Parsing.{blank, advancedBy, parsedOf}
+use Rattle.lines.specs.Line.{Sound}
+use Rattle.lines.specs.declared.Parsed.{Parsed}
 use Rattle.sheet.specs.declared.reader.Progress.{Progress}
 use Rattle.sheet.proofs.Onward.{after-sound, after-whole, after-few}
 use Rattle.sheet.proofs.Owning.{Goes, OwnGoes, OwnParsed, OwnSlice, goesVal, parsedVal, number, apart, together}
-use Rattle.sheet.proofs.lines.Parsed as D
-use Rattle.sheet.proofs.lines.Parsed.Laws as D′
+use Rattle.lines.proofs.Parsed as D
+use Rattle.lines.proofs.Parsed.Laws as D′
 use Rattle.sheet.proofs.reader.Reader as R
 use Rattle.sheet.proofs.reader.Reader.Laws as R′
 use Rattle.sheet.proofs.reader.Progress as P

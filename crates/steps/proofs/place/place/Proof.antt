@@ -10,7 +10,7 @@ use Rattle.bitset.specs.Word.{common}
 use Rattle.labels.specs.Weights.{Consistent}
 use Rattle.labels.specs.Words.{spreadTo, smallestTo, largestTo}
 use Rattle.steps.specs.Steps.{grownBy}
-use Rattle.steps.proofs.Placing.{placed-narrows, placed-covers, placed-reaches}
+use Rattle.steps.proofs.Placing.{placed-narrows, placed-covers, placed-reaches, placed-earlier, placed-leads}
 use Rattle.steps.proofs.place.place.Statement.{statement}
 use Rattle.steps.proofs.place.place.Tie as tie
 
@@ -35,6 +35,9 @@ common-requires c κs = tt
 remove-requires-2 : tie.Need-remove-requires-2
 remove-requires-2 c κs = tt
 
+common-requires-2 : tie.Need-common-requires-2
+common-requires-2 c κs = tt
+
 -- the unplaced ones that the vertex leads to
 grown : (c : tie.After-common)
     → let a = c .before .before .before .before .before .before .before .before .args in
@@ -46,7 +49,7 @@ grown c =
 
 spread-requires : tie.Need-spread-requires
 spread-requires c κs =
-    let cut = c .before .before .before .before in
+    let cut = c .before .before .before .before .before in
     let front = cut .before in
     let removed = front .before .before in
     let inserted = removed .before in
@@ -61,12 +64,12 @@ spread-requires c κs =
 
 -- the labels with the position put in
 spread-is : (c : tie.After-spread)
-    → let a = c .before .before .before .before .before .before .before .before .before .before .before .before .before .before .args in
+    → let a = c .before .before .before .before .before .before .before .before .before .before .before .before .before .before .before .args in
     (c .spread .last .1 .1 .1 .0 ≡ spreadTo (grownBy (now (a .rows)) (a .stage .free) (a .vertex .0)) (a .position .0) (now (a .labels)))
     × (c .spread .last .1 .1 .1 .1 .0 ≡ smallestTo (grownBy (now (a .rows)) (a .stage .free) (a .vertex .0)) (a .position .0) (now (a .smallest)))
     × (c .spread .last .1 .1 .1 .1 .1 .0 ≡ largestTo (grownBy (now (a .rows)) (a .stage .free) (a .vertex .0)) (a .position .0) (now (a .largest)))
 spread-is c =
-    let front = c .before .before .before .before .before .before in
+    let front = c .before .before .before .before .before .before .before in
     let a = front .before .before .before .before .before .before .before .before .args in
     let p = a .position .0 in (
       c .spread .ensures .0 ∙ ap (λ (x : ℕ). spreadTo x p (now (a .labels))) (grown front),
@@ -83,10 +86,20 @@ reached-is c =
     let a = row .before .before .before .before .args in
     c .union .ensures ∙ ap (λ (x : ℕ). word.united (a .stage .reached) x) (row .row-of .ensures)
 
+-- who was offered and reached before
+early-is : (c : tie.After-common2)
+    → let a = c .before .before .before .before .before .before .before .before .before .before .args in
+    c .common2 .result ≡ common (word.removed (a .stage .offered) (a .vertex .0)) (a .stage .reached)
+early-is c =
+    let cut = c .before in
+    let a = cut .before .before .before .before .before .before .before .before .before .args in
+    c .common2 .ensures ∙ ap (λ (x : ℕ). common x (a .stage .reached)) (cut .remove2 .ensures)
+
 offered-after-requires : tie.Need-offered-after-requires
 offered-after-requires c κs =
     let spread = c .before .before in
-    let cut = spread .before .before .before .before .before in
+    let early = spread .before .before .before .before .before in
+    let cut = early .before in
     let front = cut .before in
     let met = front .before in
     let removed = met .before in
@@ -96,12 +109,13 @@ offered-after-requires c κs =
       placed-covers (s .pre) at-labels (reached-is met),
       placed-reaches (s .pre) at-labels (reached-is met) (removed .remove .ensures),
       spread .spread .ensures .1 .1 .1,
+      placed-leads (s .args .kind .0) (s .pre) at-labels (removed .remove .ensures) (reached-is met) (early-is early) (grown front),
     )
 
 returns : tie.Need-returns
 returns c =
     let spread = c .before .before .before in
-    let cut = spread .before .before .before .before .before in
+    let cut = spread .before .before .before .before .before .before in
     let front = cut .before in
     let met = front .before in
     let removed = met .before in
@@ -118,6 +132,7 @@ returns c =
             (
               is .2,
               record {
+                earlier = placed-earlier (s .pre) (is .0);
                 weighed = spread .spread .ensures .1 .1 .1;
                 offers = c .offered-after .ensures;
                 covers = placed-covers (s .pre) (is .0) (reached-is met);
@@ -140,6 +155,7 @@ place-spec =
     union-requires
     common-requires
     remove-requires-2
+    common-requires-2
     spread-requires
     offered-after-requires
     returns)

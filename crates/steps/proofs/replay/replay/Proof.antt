@@ -1,7 +1,7 @@
 -- `steps::replay::replay` meets its contract.
 -- Assumes nothing.
 use Prim.Native.Nat.{ℕ, _-_}
-use mathlib.Core.Path.{_≡_, sym, ap, _∙_}
+use mathlib.Core.Path.{_≡_, sym, ap, _∙_, subst}
 use mathlib.Core.Bool.{Bool, true, false, not}
 use lib.Dec.{T}
 use lib.ListN.{length}
@@ -10,7 +10,7 @@ use native.Mathlib.Omega.{arith}
 use borrow.Author.Needs.{needs}
 use Rattle.bitset.proofs.Tests.{said-true, said-false, not-true, not-false}
 use Rattle.searches.specs.Kind.{searchOf}
-use Rattle.steps.specs.Steps.{labelsAfter, smallestAfter, largestAfter, placedAfter, freeAfter, stopsAt}
+use Rattle.steps.specs.Steps.{labelsAfter, smallestAfter, largestAfter, placedAfter, freeAfter, stopsAt, Staged}
 use Rattle.steps.proofs.Replaying.{Replaying, asked, replay-start, replay-placeable, replay-next, replay-stop, replay-end}
 use Rattle.steps.proofs.replay.replay.Statement.{statement}
 use Rattle.steps.proofs.replay.replay.Tie as tie
@@ -123,7 +123,10 @@ returns-2 c =
           i .unplaced ∙ ap (λ (m : ℕ). freeAfter (length r) w m) e,
           (
             i .labelled ∙ ap (λ (m : ℕ). labelsAfter r w m) e,
-            (i .smallest-after ∙ ap (λ (m : ℕ). smallestAfter r w m) e, (i .largest-after ∙ ap (λ (m : ℕ). largestAfter r w m) e, i .staged)),
+            (
+              i .smallest-after ∙ ap (λ (m : ℕ). smallestAfter r w m) e,
+              (i .largest-after ∙ ap (λ (m : ℕ). largestAfter r w m) e, subst (Staged k (l .loop .labels) (l .loop .weights) (l .loop .stage)) e (i .staged)),
+            ),
           ),
         ),
       ),

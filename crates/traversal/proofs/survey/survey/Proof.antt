@@ -6,7 +6,8 @@ use native.Mathlib.Omega.{arith}
 use borrow.Author.Needs.{needs}
 use Rattle.bitset.proofs.Tests.{said-true, said-false}
 use Rattle.traversal.specs.declared.Traversal.{Traversal}
-use Rattle.traversal.specs.State.{state, plan, walk, usedFrom}
+use Rattle.traversal.specs.State.{state, plan, walk}
+use Rattle.lookup.specs.Unused.{usedFrom}
 use Rattle.traversal.proofs.WellFormed.{parts, by-judge, surveyed-broken, surveyed-judged, plan-length, walk-length}
 use Rattle.traversal.proofs.survey.survey.Statement.{statement}
 use Rattle.traversal.proofs.survey.survey.Tie as tie

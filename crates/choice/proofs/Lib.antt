@@ -1,0 +1,2 @@
+pub mod Ranking
+pub mod Choosing

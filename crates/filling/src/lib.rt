@@ -1,0 +1,65 @@
+// The filling step of carry-on: the choice by the tie-break, again and again.
+use searches::Kind;
+use searches::Position;
+use steps::place::Stage;
+use steps::place::place;
+ghost use mathlib.Core.Path.{_≡_};
+ghost use mathlib.Core.List.{_++_};
+ghost use Prim.Native.Nat.{_-_};
+ghost use lib.ListN.{length, drop};
+ghost use Rattle.searches.specs.Kind.{searchOf};
+ghost use Rattle.filling.specs.Fill.{fillIn, Fillable};
+
+// Writes the vertices that carry on from position `k` into `tail`, whose first bytes are the positions from `k` on; `labels`, `smallest`, `largest`,
+// `weights` and `stage` are those after the first `k`. `columns` are the rows, transposed.
+pub fn fill(
+    kind: Kind,
+    rows: &[u64],
+    columns: &[u64],
+    tie_break: &[u8],
+    tail: &mut [u8],
+    k: usize,
+    labels: &mut [u64; 64],
+    smallest: &mut [u8; 64],
+    largest: &mut [u8; 64],
+    weights: &mut [u64; 64],
+    stage: Stage,
+)
+    requires { ⌜ Fillable (searchOf (kind .0)) (now rows) (now columns) (now «tie_break») (now tail) k (now labels) (now smallest) (now largest) (now weights) stage ⌝ }
+    ensures { λ r. ⌜
+        now (tail .exit)
+        ≡ fillIn (searchOf (kind .0)) (now (rows .entry)) (now («tie_break» .entry)) (length (now (rows .entry)) - k) k (now (labels .entry)) (stage .free)
+        ++ drop (length (now (rows .entry)) - k) (now (tail .entry))
+        ⌝ }
+{
+    let mut ranks = [0u8; 64];
+    choice::rank(tie_break, &mut ranks);
+    let mut moment = stage;
+    let count = rows.len() - k;
+    for i in 0..count {
+        let v = choice::choose(
+            kind,
+            labels,
+            weights,
+            moment.free,
+            moment.reached,
+            moment.offered,
+            tie_break,
+            &ranks,
+        );
+        tail[i] = v.0;
+        let p = k + i;
+        moment = place(
+            kind,
+            rows,
+            columns,
+            labels,
+            smallest,
+            largest,
+            weights,
+            moment,
+            v,
+            Position(p),
+        );
+    }
+}

@@ -1,0 +1,4 @@
+pub mod Transposition
+pub mod Unused
+pub mod Seen
+pub mod Symmetry
