@@ -60,9 +60,9 @@ fn leading(kind: Kind, labels: &[u64; 64], weights: &[u64; 64], known: u64, riva
     best
 }
 
-// The offered vertices of `free` once a vertex was placed. `stay` are those that were offered before and are still unplaced, `grown` the unplaced ones that the
-// placed vertex leads to, and `reached` those that any placed vertex leads to. Where some stay, only these and the grown ones can be offered. In MNS any set
-// is returned.
+// The offered vertices of `free` once a vertex was placed, found by comparing. `stay` are those that were offered before and are still unplaced, `grown` the
+// unplaced ones that the placed vertex leads to, and `reached` those that any placed vertex leads to. Where some stay, only these and the grown ones can be
+// offered. In MNS any set is returned.
 fn narrowed(
     kind: Kind,
     labels: &[u64; 64],
@@ -112,7 +112,8 @@ fn by_rule(kind: Kind, front: u64, early: u64, grown: u64) -> u64
     0
 }
 
-// The same, by the rule of the search where that names somebody. `early` are those of `stay` that were reached before.
+// The offered vertices of `free` once a vertex was placed: by the rule of the search, and where that names nobody by comparing (`narrowed`). `early` are those
+// of `stay` that were reached before.
 pub fn offered_after(
     kind: Kind,
     labels: &[u64; 64],
