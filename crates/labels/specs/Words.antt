@@ -1,5 +1,4 @@
--- What the code computes on labels that are kept as words. `labels` is the list of the 64 words, `weights` that of their weights, `free` is the set of the
--- unplaced vertices.
+-- What the code computes on labels that are kept as words. `labels` is the list of the 64 words, `weights` that of their weights.
 --   profileOf s label             what a comparison looks at, of a vertex with this label
 --   profileAt labels weights v    the same, as it is kept of v
 --   Weighed s labels weights      what is kept as the weight of each label is its weight
