@@ -4,21 +4,22 @@
 --   scan-found, scan-end        what is then known of the search
 --   first-member                the smallest number of a word that is not 0 is in it
 --   removed-in, removed-keeps, removed-other   what is in the word after e was taken out
---   removed-less                a word is less once a member is taken out
+--   removed-less                a word is less once a member is taken out;   removed-size   and has one number less
 --   cleared-smallest, cleared-empty   the word without its smallest number, as the machine makes it;   taken-out   by what was found
 -- Assumes nothing.
 use mathlib.Core.Path.{_≡_, refl, sym, ap, _∙_, subst}
-use mathlib.Core.Bool.{Bool, true, false, not, _&&_}
+use mathlib.Core.Bool.{Bool, true, false, not, _&&_, _||_}
 use mathlib.Core.Logic.{_⊎_, inl, inr}
 use Prim.Native.Nat.{ℕ, zero, suc, _-_, _/_, _%_, _<_, _≤_, _^_}
 use native.Mathlib.Nat.{lt-of-le-of-lt}
 use native.Mathlib.Omega.{arith}
 use lib.Bits.{bitAnd, bitXor, and-le-l}
 use lib.Dec.{T, eqb, eqb→eq, eqb-refl, not-T, T-not}
-use Rattle.bitset.specs.Below.{anyBelow, firstBelow}
+use Rattle.bitset.specs.Below.{anyBelow, firstBelow, countBelow}
 use Rattle.bitset.specs.Word.{member, removed}
 use Rattle.bitset.proofs.Tests.{and-in, and-out, same-test, decided, is-true, is-false, cond-no}
 use Rattle.bitset.proofs.Below.{any-out, any-at, first, first-found, first-earliest}
+use Rattle.bitset.proofs.Count.{count-same, count-added}
 use Rattle.bitset.proofs.Word.{some-member, member-lowest, member-suc, member-and, member-removed, removed-word, equal-members, empty-back}
 use Rattle.bitset.proofs.WordOrder.{highest-decides}
 
@@ -46,6 +47,17 @@ pub removed-less : (x e : ℕ) → x < 2 ^ 64 → T (member x e) → removed x e
 removed-less x e h t =
     highest-decides 64 (removed-word h e) h {m = e} (λ u. removed-in x e e u .0 refl) t
     (λ p l. removed-other x e p (λ same. omega arith))
+
+pub removed-size : (x e : ℕ) → e < 64 → T (member x e) → countBelow 64 (member x) ≡ suc (countBelow 64 (member (removed x e)))
+removed-size x e l t =
+    count-same 64 (member x) (λ p. eqb e p || member (removed x e) p) (λ p _. go p (decided (eqb e p)))
+    ∙ count-added 64 (member (removed x e)) e l (λ u. removed-in x e e u .0 refl)
+  where
+    go : (p : ℕ) → T (eqb e p) ⊎ (T (eqb e p) → ⊥) → member x p ≡ (eqb e p || member (removed x e) p)
+    go p (inl same) =
+        is-true (member x p) (subst (λ (y : ℕ). T (member x y)) (eqb→eq e p same) t) ∙ sym (ap (λ (b : Bool). b || member (removed x e) p) (is-true (eqb e p) same))
+    go p (inr out) =
+        sym (removed-other x e p (λ same. out (subst (λ (y : ℕ). T (eqb e y)) same (eqb-refl e)))) ∙ sym (ap (λ (b : Bool). b || member (removed x e) p) (is-false (eqb e p) out))
 
 -- ---- the word without its smallest number, as the machine makes it
 

@@ -11,14 +11,15 @@ use mathlib.Core.Logic.{_⊎_, inl, inr}
 use mathlib.Core.Option.{Option, none, some}
 use Prim.Native.Nat.{ℕ, _≤_, _<_}
 use native.Mathlib.Omega.{arith}
-use borrow.Author.Tests.{ltb-false}
-use lib.Dec.{T, ltb}
+use lib.Dec.{T}
 use lib.ListN.{length}
-use Rattle.bitset.proofs.Tests.{is-false, below-or}
+use Rattle.bitset.proofs.Tests.{below-or}
 use Rattle.searches.specs.Ordering.{at}
-use Rattle.searches.specs.Answer.{openTests, firstRefusal, vertexOutside}
+use Rattle.searches.specs.Answer.{openTestsBarring, firstRefusal, vertexOutside}
 use Rattle.searches.specs.declared.Mark.{Mark}
 use Rattle.searches.proofs.Refusals.{none-accepts, vertexOutside-in}
+use Rattle.searches.proofs.Answers.{valid-small}
+use Rattle.searches.proofs.Barring.{valid-graph}
 
 pub record Tried (tests later : List (ℕ × Bool)) : Type 0 where
   pub same : firstRefusal later ≡ firstRefusal tests
@@ -65,9 +66,8 @@ refused-before a b e = ap (λ (first : Option ℕ). otherwise first (firstRefusa
 -- ---- what the tests that were passed say of the lists
 
 -- no more than 64 rows are let through
-pub rows-fit : (kind : ℕ) (mark : Mark) (rows : List ℕ) → none ≡ firstRefusal (openTests kind mark rows) → length rows ≤ 64
-unfolding openTests
-rows-fit kind mark rows e = ltb-false 64 (length rows) (is-false (ltb 64 (length rows)) (none-accepts (openTests kind mark rows) (sym e) .1 .0))
+pub rows-fit : (kind : ℕ) (mark : Mark) (rows : List ℕ) (barred : ℕ) → none ≡ firstRefusal (openTestsBarring kind mark rows barred) → length rows ≤ 64
+rows-fit kind mark rows barred e = valid-small kind mark rows (valid-graph kind mark rows barred (none-accepts (openTestsBarring kind mark rows barred) (sym e)))
 
 -- entries that name vertices fit a set
 pub entries-fit : {n : ℕ} (w : List ℕ) {k : ℕ} → n ≤ 64 → vertexOutside n w k ≡ false → (p : ℕ) → p < k → at w p < 64

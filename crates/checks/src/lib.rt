@@ -3,14 +3,14 @@
 pub mod number;
 
 ghost use mathlib.Core.Path.{_≡_};
-ghost use Rattle.searches.specs.Answer.{openTests, judgeTests, listTests, firstRefusal, refusalOf};
+ghost use Rattle.searches.specs.Answer.{openTests, openTestsBarring, judgeTestsBarring, listTestsBarring, firstRefusal, refusalOf};
 use searches::Kind;
 use searches::Mark;
 use searches::Outcome;
 use searches::Refusal;
 
 // The first of refusals 1 to 5 that applies to `kind` and `rows`, else `Done`; 5 for two-way graphs only. It alters neither.
-pub fn open_refusal(kind: Kind, mark: Mark, rows: &[u64]) -> Outcome
+fn graph_refusal(kind: Kind, mark: Mark, rows: &[u64]) -> Outcome
     ensures { λ r. ⌜ refusalOf r ≡ firstRefusal (openTests (kind .0) mark (now (rows .entry))) ⌝ }
 {
     if Kind::MCS.0 < kind.0 {
@@ -37,11 +37,25 @@ pub fn open_refusal(kind: Kind, mark: Mark, rows: &[u64]) -> Outcome
     Outcome::Done
 }
 
-// The first of refusals 1 to 6, 8 and 9 that applies to `ordering` on this graph, else `Done`. It alters no list.
-pub fn judge_refusal(kind: Kind, mark: Mark, rows: &[u64], ordering: &[u8]) -> Outcome
-    ensures { λ r. ⌜ refusalOf r ≡ firstRefusal (judgeTests (kind .0) mark (now (rows .entry)) (now (ordering .entry))) ⌝ }
+// The first of refusals 1 to 5 and 23 that applies to `kind`, `rows` and the set of barred vertices, else `Done`. It alters no list.
+pub fn open_refusal(kind: Kind, mark: Mark, rows: &[u64], barred: u64) -> Outcome
+    ensures { λ r. ⌜ refusalOf r ≡ firstRefusal (openTestsBarring (kind .0) mark (now (rows .entry)) barred) ⌝ }
 {
-    let opened = open_refusal(kind, mark, rows);
+    let checked = graph_refusal(kind, mark, rows);
+    if let Outcome::Refused(refusal) = checked {
+        return Outcome::Refused(refusal);
+    }
+    if bitset::any_from(barred, rows.len()) {
+        return Outcome::Refused(Refusal::BarredOutOfRange);
+    }
+    Outcome::Done
+}
+
+// The first of refusals 1 to 5, 23, 6, 8, 9 and 24, in this order, that applies to `ordering` on this graph, else `Done`. It alters no list.
+pub fn judge_refusal(kind: Kind, mark: Mark, rows: &[u64], barred: u64, ordering: &[u8]) -> Outcome
+    ensures { λ r. ⌜ refusalOf r ≡ firstRefusal (judgeTestsBarring (kind .0) mark (now (rows .entry)) barred (now (ordering .entry))) ⌝ }
+{
+    let opened = open_refusal(kind, mark, rows, barred);
     if let Outcome::Refused(refusal) = opened {
         return Outcome::Refused(refusal);
     }
@@ -56,22 +70,26 @@ pub fn judge_refusal(kind: Kind, mark: Mark, rows: &[u64], ordering: &[u8]) -> O
     if lookup::entries::repeated(ordering, length) {
         return Outcome::Refused(Refusal::RepeatedVertex);
     }
+    if lookup::entries::vertex_barred(ordering, length, barred) {
+        return Outcome::Refused(Refusal::BarredVertex);
+    }
     Outcome::Done
 }
 
-// The first of refusals 1 to 6, 10, 7, 8 and 9, in this order, that applies to carrying on the first `k` entries of
+// The first of refusals 1 to 5, 23, 6, 10, 7, 8, 9 and 24, in this order, that applies to carrying on the first `k` entries of
 // `output`, else `Done`. It alters no list, and any `k` may be given.
 pub fn list_refusal(
     kind: Kind,
     mark: Mark,
     rows: &[u64],
+    barred: u64,
     tie_break: &[u8],
     output: &[u8],
     k: usize,
 ) -> Outcome
-    ensures { λ r. ⌜ refusalOf r ≡ firstRefusal (listTests (kind .0) mark (now (rows .entry)) (now («tie_break» .entry)) (now (output .entry)) k) ⌝ }
+    ensures { λ r. ⌜ refusalOf r ≡ firstRefusal (listTestsBarring (kind .0) mark (now (rows .entry)) barred (now («tie_break» .entry)) (now (output .entry)) k) ⌝ }
 {
-    let opened = open_refusal(kind, mark, rows);
+    let opened = open_refusal(kind, mark, rows, barred);
     if let Outcome::Refused(refusal) = opened {
         return Outcome::Refused(refusal);
     }
@@ -92,6 +110,9 @@ pub fn list_refusal(
     }
     if lookup::entries::repeated(output, k) || lookup::entries::repeated(tie_break, n) {
         return Outcome::Refused(Refusal::RepeatedVertex);
+    }
+    if lookup::entries::vertex_barred(output, k, barred) {
+        return Outcome::Refused(Refusal::BarredVertex);
     }
     Outcome::Done
 }

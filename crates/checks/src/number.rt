@@ -30,5 +30,7 @@ pub fn number(refusal: Refusal) -> u32
         Refusal::OrderingFails => 20,
         Refusal::NotBreadthFirst => 21,
         Refusal::NotPlaced => 22,
+        Refusal::BarredOutOfRange => 23,
+        Refusal::BarredVertex => 24,
     }
 }

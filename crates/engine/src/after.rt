@@ -29,15 +29,15 @@ pub fn no_moment() -> Moment
 }
 
 // Judges an ordering for a caller that continues it: it is checked and replayed once. Alters nothing.
-pub fn after(kind: Kind, mark: Mark, rows: &[u64], ordering: &[u8]) -> Moment
-    ensures { λ r. ⌜ r ≡ momentAfter (kind .0) mark (now (rows .entry)) (now (ordering .entry)) ⌝ }
+pub fn after(kind: Kind, mark: Mark, rows: &[u64], barred: u64, ordering: &[u8]) -> Moment
+    ensures { λ r. ⌜ r ≡ momentAfter (kind .0) mark (now (rows .entry)) barred (now (ordering .entry)) ⌝ }
 {
     let mut columns = [0u64; 64];
     let mut labels = [0u64; 64];
     let mut smallest = [64u8; 64];
     let mut largest = [0u8; 64];
     let mut weights = [0u64; 64];
-    let checked = checks::judge_refusal(kind, mark, rows, ordering);
+    let checked = checks::judge_refusal(kind, mark, rows, barred, ordering);
     if let Outcome::Refused(_) = checked {
         return no_moment();
     }
@@ -48,6 +48,7 @@ pub fn after(kind: Kind, mark: Mark, rows: &[u64], ordering: &[u8]) -> Moment
         kind,
         rows,
         &columns[..n],
+        barred,
         ordering,
         k,
         &mut labels,

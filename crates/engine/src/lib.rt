@@ -14,35 +14,36 @@ ghost use mathlib.Core.Option.{none, some};
 ghost use lib.ListN.{length, drop};
 ghost use Rattle.searches.specs.Kind.{searchOf};
 ghost use Rattle.searches.specs.Ordering.{arcs};
-ghost use Rattle.searches.specs.Violation.{judge as judgeOf};
-ghost use Rattle.searches.specs.CarryOn.{carryOn};
-ghost use Rattle.searches.specs.Answer.{isPass, judgeAnswer, carryOnAnswer, carryOnOutput, verdictOf, refusalOf};
+ghost use Rattle.bitset.specs.Below.{countBelow};
+ghost use Rattle.searches.specs.Without.{judgeWithout, carryOnWithout};
+ghost use Rattle.searches.specs.Answer.{unbarred, isPass, judgeBarring, carryOnBarring, outputBarring, verdictOf, refusalOf};
 ghost use Rattle.engine.specs.Lists.{Judgeable, Extendable};
 
-// Judges an ordering: it passes, or fails with its first violation, or is refused (1 to 6, 8, 9; 5 for two-way graphs only). Alters nothing.
-pub fn judge(kind: Kind, mark: Mark, rows: &[u64], ordering: &[u8]) -> Judgement
-    ensures { λ r. ⌜ verdictOf r ≡ judgeAnswer (kind .0) mark (now (rows .entry)) (now (ordering .entry)) ⌝ }
+// Judges an ordering in the graph without the vertices of `barred`: it passes, or fails with its first violation, or is refused (1 to 5, 23, 6, 8, 9, 24; 5 for
+// two-way graphs only). Alters nothing.
+pub fn judge(kind: Kind, mark: Mark, rows: &[u64], barred: u64, ordering: &[u8]) -> Judgement
+    ensures { λ r. ⌜ verdictOf r ≡ judgeBarring (kind .0) mark (now (rows .entry)) barred (now (ordering .entry)) ⌝ }
 {
-    let checked = checks::judge_refusal(kind, mark, rows, ordering);
+    let checked = checks::judge_refusal(kind, mark, rows, barred, ordering);
     if let Outcome::Refused(refusal) = checked {
         return Judgement::Refused(refusal);
     }
     // the rows of a two-way graph are their own transpose
     if let Mark::TwoWay = mark {
-        return verdict(kind, rows, rows, ordering);
+        return verdict(kind, rows, rows, barred, ordering);
     }
     let n = rows.len();
     let mut columns = [0u64; 64];
     bitset::transposition::write_columns(rows, &mut columns);
-    verdict(kind, rows, &columns[..n], ordering)
+    verdict(kind, rows, &columns[..n], barred, ordering)
 }
 
-// The verdict on an ordering of a graph of at most 64 vertices. `columns` are its rows, transposed.
-fn verdict(kind: Kind, rows: &[u64], columns: &[u64], ordering: &[u8]) -> Judgement
-    requires { ⌜ Judgeable (now rows) (now columns) (now ordering) (length (now ordering)) ⌝ }
+// The verdict on an ordering of a graph of at most 64 vertices without the barred ones. `columns` are its rows, transposed.
+fn verdict(kind: Kind, rows: &[u64], columns: &[u64], barred: u64, ordering: &[u8]) -> Judgement
+    requires { ⌜ Judgeable (now rows) (now columns) barred (now ordering) (length (now ordering)) ⌝ }
     ensures { λ r. ⌜
         verdictOf r
-        ≡ judgeOf (searchOf (kind .0)) (arcs (now (rows .entry))) (length (now (rows .entry))) (now (ordering .entry)) (length (now (ordering .entry)))
+        ≡ judgeWithout (searchOf (kind .0)) (arcs (now (rows .entry))) (length (now (rows .entry))) (unbarred barred) (now (ordering .entry)) (length (now (ordering .entry)))
         ⌝ }
 {
     let mut labels = [0u64; 64];
@@ -54,6 +55,7 @@ fn verdict(kind: Kind, rows: &[u64], columns: &[u64], ordering: &[u8]) -> Judgem
         kind,
         rows,
         columns,
+        barred,
         ordering,
         k,
         &mut labels,
@@ -78,50 +80,53 @@ fn verdict(kind: Kind, rows: &[u64], columns: &[u64], ordering: &[u8]) -> Judgem
     Judgement::Passes
 }
 
-// Carries on the first `k` vertices of `output`: at each further position up to the last vertex, of the vertices then offered, the one that
-// stands last in `tie_break` is written. Refused (1 to 6, 10, 7, 8, 9, 12; 5 for two-way graphs only), `output` stays as it was; done, only the
-// positions from `k` up to the number of vertices are written. `rows` and `tie_break` are not altered.
+// Carries on the first `k` vertices of `output` in the graph without the vertices of `barred`: at each further position, of the vertices then offered, the
+// one that stands last in `tie_break` is written, until all vertices that are not barred are placed. Refused (1 to 5, 23, 6, 10, 7, 8, 9, 24, 12; 5 for two-way
+// graphs only), `output` stays as it was; done, only the positions from `k` up to the number of vertices that are not barred are written. `rows` and
+// `tie_break` are not altered.
 pub fn carry_on(
     kind: Kind,
     mark: Mark,
     rows: &[u64],
+    barred: u64,
     tie_break: &[u8],
     output: &mut [u8],
     k: usize,
 ) -> Outcome
-    ensures answer { λ r. ⌜ refusalOf r ≡ carryOnAnswer (kind .0) mark (now (rows .entry)) (now («tie_break» .entry)) (now (output .entry)) k ⌝ }
-    ensures output { λ r. ⌜ now (output .exit) ≡ carryOnOutput (kind .0) mark (now (rows .entry)) (now («tie_break» .entry)) (now (output .entry)) k ⌝ }
+    ensures answer { λ r. ⌜ refusalOf r ≡ carryOnBarring (kind .0) mark (now (rows .entry)) barred (now («tie_break» .entry)) (now (output .entry)) k ⌝ }
+    ensures output { λ r. ⌜ now (output .exit) ≡ outputBarring (kind .0) mark (now (rows .entry)) barred (now («tie_break» .entry)) (now (output .entry)) k ⌝ }
 {
-    let checked = checks::list_refusal(kind, mark, rows, tie_break, output, k);
+    let checked = checks::list_refusal(kind, mark, rows, barred, tie_break, output, k);
     if let Outcome::Refused(refusal) = checked {
         return Outcome::Refused(refusal);
     }
     // the rows of a two-way graph are their own transpose
     if let Mark::TwoWay = mark {
-        return extend(kind, rows, rows, tie_break, output, k);
+        return extend(kind, rows, rows, barred, tie_break, output, k);
     }
     let n = rows.len();
     let mut columns = [0u64; 64];
     bitset::transposition::write_columns(rows, &mut columns);
-    extend(kind, rows, &columns[..n], tie_break, output, k)
+    extend(kind, rows, &columns[..n], barred, tie_break, output, k)
 }
 
-// Carries on a start of distinct vertices, unless it does not pass. `columns` are the rows, transposed.
+// Carries on a start of distinct vertices that are not barred, unless it does not pass. `columns` are the rows, transposed.
 fn extend(
     kind: Kind,
     rows: &[u64],
     columns: &[u64],
+    barred: u64,
     tie_break: &[u8],
     output: &mut [u8],
     k: usize,
 ) -> Outcome
-    requires { ⌜ Extendable (now rows) (now columns) (now «tie_break») (now output) k ⌝ }
-    ensures answer { λ r. ⌜ refusalOf r ≡ cond (isPass (judgeOf (searchOf (kind .0)) (arcs (now (rows .entry))) (length (now (rows .entry))) (now (output .entry)) k)) none (some 12) ⌝ }
+    requires { ⌜ Extendable (now rows) (now columns) barred (now «tie_break») (now output) k ⌝ }
+    ensures answer { λ r. ⌜ refusalOf r ≡ cond (isPass (judgeWithout (searchOf (kind .0)) (arcs (now (rows .entry))) (length (now (rows .entry))) (unbarred barred) (now (output .entry)) k)) none (some 12) ⌝ }
     ensures output { λ r. ⌜
         now (output .exit)
-        ≡ cond (isPass (judgeOf (searchOf (kind .0)) (arcs (now (rows .entry))) (length (now (rows .entry))) (now (output .entry)) k))
-        (carryOn (searchOf (kind .0)) (arcs (now (rows .entry))) (length (now (rows .entry))) (now («tie_break» .entry)) (now (output .entry)) k
-        ++ drop (length (now (rows .entry))) (now (output .entry))) (now (output .entry))
+        ≡ cond (isPass (judgeWithout (searchOf (kind .0)) (arcs (now (rows .entry))) (length (now (rows .entry))) (unbarred barred) (now (output .entry)) k))
+        (carryOnWithout (searchOf (kind .0)) (arcs (now (rows .entry))) (length (now (rows .entry))) (unbarred barred) (now («tie_break» .entry)) (now (output .entry)) k
+        ++ drop (countBelow (length (now (rows .entry))) (unbarred barred)) (now (output .entry))) (now (output .entry))
         ⌝ }
 {
     let mut labels = [0u64; 64];
@@ -132,6 +137,7 @@ fn extend(
         kind,
         rows,
         columns,
+        barred,
         output,
         k,
         &mut labels,

@@ -5,12 +5,13 @@ use steps::place::Stage;
 use steps::place::place;
 ghost use mathlib.Core.Path.{_≡_};
 ghost use mathlib.Core.List.{_++_};
-ghost use Prim.Native.Nat.{_-_};
-ghost use lib.ListN.{length, drop};
+ghost use lib.ListN.{drop};
+ghost use Rattle.bitset.specs.Below.{countBelow};
+ghost use Rattle.bitset.specs.Word.{member};
 ghost use Rattle.searches.specs.Kind.{searchOf};
 ghost use Rattle.filling.specs.Fill.{fillIn, Fillable};
 
-// Writes the vertices that carry on from position `k` into `tail`, whose first bytes are the positions from `k` on; `labels`, `smallest`, `largest`,
+// Writes the unplaced vertices into `tail` as they carry on from position `k`; the first bytes of `tail` are the positions from `k` on; `labels`, `smallest`, `largest`,
 // `weights` and `stage` are those after the first `k`. `columns` are the rows, transposed.
 pub fn fill(
     kind: Kind,
@@ -28,14 +29,14 @@ pub fn fill(
     requires { ⌜ Fillable (searchOf (kind .0)) (now rows) (now columns) (now «tie_break») (now tail) k (now labels) (now smallest) (now largest) (now weights) stage ⌝ }
     ensures { λ r. ⌜
         now (tail .exit)
-        ≡ fillIn (searchOf (kind .0)) (now (rows .entry)) (now («tie_break» .entry)) (length (now (rows .entry)) - k) k (now (labels .entry)) (stage .free)
-        ++ drop (length (now (rows .entry)) - k) (now (tail .entry))
+        ≡ fillIn (searchOf (kind .0)) (now (rows .entry)) (now («tie_break» .entry)) (countBelow 64 (member (stage .free))) k (now (labels .entry)) (stage .free)
+        ++ drop (countBelow 64 (member (stage .free))) (now (tail .entry))
         ⌝ }
 {
     let mut ranks = [0u8; 64];
     choice::rank(tie_break, &mut ranks);
     let mut moment = stage;
-    let count = rows.len() - k;
+    let count = bitset::size(stage.free);
     for i in 0..count {
         let v = choice::choose(
             kind,

@@ -3,7 +3,7 @@ ghost use mathlib.Core.Path.{_≡_};
 ghost use Prim.Native.Nat.{ℕ, _≤_, _<_};
 ghost use lib.ListN.{length};
 ghost use Rattle.searches.specs.Ordering.{at};
-ghost use Rattle.searches.specs.Answer.{vertexOutside};
+ghost use Rattle.searches.specs.Answer.{vertexOutside, barredNamed};
 ghost use Rattle.searches.specs.Answer as answer;
 
 // Whether one of the first `k` entries is `n` or more.
@@ -13,6 +13,19 @@ pub fn vertex_outside(list: &[u8], k: usize, n: usize) -> bool
 {
     for p in 0..k {
         if n <= list[p] as usize {
+            return true;
+        }
+    }
+    false
+}
+
+// Whether one of the first `k` entries is a vertex of `barred`.
+pub fn vertex_barred(list: &[u8], k: usize, barred: u64) -> bool
+    requires { ⌜ k ≤ length (now list) ⌝ }
+    ensures { λ r. ⌜ r ≡ barredNamed barred (now (list .entry)) k ⌝ }
+{
+    for p in 0..k {
+        if bitset::contains(barred, list[p] as usize) {
             return true;
         }
     }

@@ -3,7 +3,7 @@
 --   accepts-both, both-accept        tests one behind the other
 --   clear, all-inside, none-repeated       an ordering is what the tests on its vertices let through
 --   ordering-accepted, accepted-ordering   judge refuses no ordering of a valid graph, and nothing else passes its tests
---   start-accepted, accepted-start         likewise for carry-on
+--   lists-accepted, accepted-lists, start-accepted, accepted-start   likewise for carry-on
 --   judge-refused, judge-accepted          judge's answer, refused and not;   passes-accepts   what passes is not refused
 --   prefix-judged                          judge's answer on a prefix
 --   carryOn-done, carryOn-kept             what carry-on leaves in the output list
@@ -151,13 +151,19 @@ module _ (kind : ℕ) (mark : Mark) (rows t out : List ℕ) (k : ℕ) where
   verdict : Verdict
   verdict = judge (searchOf kind) (arcs rows) n out k
 
-  pub start-accepted : Start kind mark rows t out k → Accepts (carryOnTests kind mark rows t out k)
-  unfolding carryOnTests listTests n verdict
-  start-accepted x =
+  -- what the tests on the lists let through
+  pub record Lists : Type 0 where
+    pub valid : Accepts (openTests kind mark rows)
+    pub room : length rows ≤ length out
+    pub tie-break : IsFullOrdering (length rows) t
+    pub start : IsOrdering (length rows) out k
+
+  pub lists-accepted : Lists → Accepts (listTests kind mark rows t out k)
+  unfolding listTests n
+  lists-accepted x =
       let fits = ordering-fits n (x .start) in
       let full : length t ≡ n = x .tie-break .full in
-      both-accept (listTests kind mark rows t out k) _
-      (both-accept (openTests kind mark rows) _ (x .valid) (
+      both-accept (openTests kind mark rows) _ (x .valid) (
         λ u. omega (arith, ltb→lt n k u),
         (
           λ u. let r : n ≤ length out = x .room in omega (arith, ltb→lt (length out) n u),
@@ -169,15 +175,7 @@ module _ (kind : ℕ) (mark : Mark) (rows t out : List ℕ) (k : ℕ) where
             ),
           ),
         ),
-      ))
-      (λ u. T-not (isPass verdict) u (isPass-in verdict (x .passing)), tt)
-
-  -- what the tests on the lists let through
-  pub record Lists : Type 0 where
-    pub valid : Accepts (openTests kind mark rows)
-    pub room : length rows ≤ length out
-    pub tie-break : IsFullOrdering (length rows) t
-    pub start : IsOrdering (length rows) out k
+      )
 
   pub accepted-lists : Accepts (listTests kind mark rows t out k) → Lists
   unfolding listTests n
@@ -197,6 +195,13 @@ module _ (kind : ℕ) (mark : Mark) (rows t out : List ℕ) (k : ℕ) where
         };
         start = clear n out k (omega arith) (λ u. inside (or-inl (vertexOutside n out k) (vertexOutside n t n) u)) (λ u. once (or-inl (repeated out k) (repeated t n) u));
       }
+
+  pub start-accepted : Start kind mark rows t out k → Accepts (carryOnTests kind mark rows t out k)
+  unfolding carryOnTests n verdict
+  start-accepted x =
+      both-accept (listTests kind mark rows t out k) _
+      (lists-accepted (record { valid = x .valid; room = x .room; tie-break = x .tie-break; start = x .start }))
+      (λ u. T-not (isPass verdict) u (isPass-in verdict (x .passing)), tt)
 
   pub accepted-start : Accepts (carryOnTests kind mark rows t out k) → Start kind mark rows t out k
   unfolding carryOnTests n verdict

@@ -1,5 +1,6 @@
 -- Judging: the verdict is the first violation, or that there is none.
 --   third-rank, rank-third, rank-below, third-vertex   the candidates for c, and where each first stands among them
+--   rank-placed, rank-unplaced                         the rank of a placed and of an unplaced vertex
 --   middle-met                                         the middle of a violation is found
 --   Judged s arc n w k v                               what a verdict says; judge-says: that judge's verdict does
 --   passes-unviolated, unviolated-passes               passes exactly when there is no violation
@@ -32,21 +33,21 @@ module _ (w : List ℕ) (k : ℕ) where
   unfolding rank stands
   rank-first v t = cond-yes (placed w k v) _ _ t
 
-  rank-unplaced : (v : ℕ) → (T (placed w k v) → ⊥) → rank w k v ≡ k + v
+  pub rank-unplaced : (v : ℕ) → (T (placed w k v) → ⊥) → rank w k v ≡ k + v
   unfolding rank stands
   rank-unplaced v out = cond-no (placed w k v) (firstBelow k (stands v)) (k + v) out
 
-  rank-placed : (v : ℕ) → T (placed w k v) → (rank w k v < k) × (at w (rank w k v) ≡ v)
+  pub rank-placed : (v : ℕ) → T (placed w k v) → (rank w k v < k) × (at w (rank w k v) ≡ v)
   unfolding placed stands
   rank-placed v t =
       let l = first-found (any-out k (stands v) t) in
       subst (λ (r : ℕ). (r < k) × (at w r ≡ v)) (sym (rank-first v t)) (l, eqb→eq (at w (firstBelow k (stands v))) v (first k (stands v) .holds l))
 
-  third-placed : (e : ℕ) → e < k → third w k e ≡ at w e
+  pub third-placed : (e : ℕ) → e < k → third w k e ≡ at w e
   unfolding third
   third-placed e l = cond-yes (ltb e k) (at w e) (e - k) (lt→ltb e k l)
 
-  third-other : (e : ℕ) → k ≤ e → third w k e ≡ e - k
+  pub third-other : (e : ℕ) → k ≤ e → third w k e ≡ e - k
   unfolding third
   third-other e l = cond-no (ltb e k) (at w e) (e - k) (λ t. omega (arith, ltb→lt e k t))
 

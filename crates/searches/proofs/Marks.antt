@@ -5,6 +5,7 @@
 --   valid-both-ways                           every link of a valid two-way graph goes both ways
 --   either-open, either-judge, either-carryOn   where every link goes both ways, both marks get the same answers
 --   judge-tests                               and judge's tests are the same
+--   five-two-way-barring, either-open-barring, either-judge-barring, either-carryOn-barring   likewise where vertices are barred
 -- Assumes nothing.
 use mathlib.Core.Path.{_≡_, refl, sym, ap, _∙_, subst}
 use mathlib.Core.Logic.{⊎-elim, _↔_}
@@ -21,8 +22,10 @@ use Rattle.searches.specs.Run.{BeginsRun}
 use Rattle.searches.specs.Violation.{Violates, passes, refused}
 use Rattle.searches.specs.Answer.{oneWay, isTwoWay, BothWays, openTests, judgeTests, listTests, carryOnTests, firstRefusal, Accepts, Refuses}
 use Rattle.searches.specs.Answer.{judgeAnswer, openAnswer, carryOnAnswer, carryOnOutput}
+use Rattle.searches.specs.Answer.{openTestsBarring, judgeTestsBarring, listTestsBarring, carryOnTestsBarring, openBarring, judgeBarring, carryOnBarring, outputBarring}
 use Rattle.searches.specs.declared.Mark.{Mark}
 use Rattle.searches.proofs.Refusals.{oneWay-in, oneWay-out}
+use Rattle.searches.proofs.DemandsBarring as barring
 use Rattle.searches.proofs.Demands.{judge-refuses, open-refuses, carryOn-refuses, part-as-run, part-unfaulted}
 
 -- ---- broken off on a one-way graph
@@ -68,6 +71,17 @@ module _ (kind : ℕ) (rows : List ℕ) where
   unfolding absent openTests listTests carryOnTests isTwoWay
   five-two-way-carryOn t out k e =
       absent-out 5 (carryOnTests kind Mark.OneWay rows t out k) tt (carryOn-refuses kind Mark.OneWay rows t out k 5 .0 e)
+
+-- 02: K8, nor where vertices are barred
+module _ (kind : ℕ) (rows : List ℕ) (barred : ℕ) where
+  pub five-two-way-barring : (openBarring kind Mark.OneWay rows barred ≡ some 5 → ⊥) × ((w : List ℕ) → judgeBarring kind Mark.OneWay rows barred w ≡ refused 5 → ⊥)
+      × ((t out : List ℕ) (k : ℕ) → carryOnBarring kind Mark.OneWay rows barred t out k ≡ some 5 → ⊥)
+  unfolding absent openTests openTestsBarring judgeTestsBarring listTestsBarring carryOnTestsBarring isTwoWay
+  five-two-way-barring = (
+    λ e. absent-out 5 (openTestsBarring kind Mark.OneWay rows barred) tt (barring.open-refuses kind Mark.OneWay rows barred 5 .0 e),
+    λ w e. absent-out 5 (judgeTestsBarring kind Mark.OneWay rows barred w) tt (barring.judge-refuses kind Mark.OneWay rows barred w 5 .0 e),
+    λ t out k e. absent-out 5 (carryOnTestsBarring kind Mark.OneWay rows barred t out k) tt (barring.carryOn-refuses kind Mark.OneWay rows barred t out k 5 .0 e),
+  )
 
 -- ---- where every link goes both ways
 
@@ -124,3 +138,32 @@ module _ (kind : ℕ) (mark mark′ : Mark) (rows : List ℕ) (both : BothWays r
       → (carryOnAnswer kind mark rows t out k ≡ carryOnAnswer kind mark′ rows t out k) × (carryOnOutput kind mark rows t out k ≡ carryOnOutput kind mark′ rows t out k)
   unfolding carryOnAnswer carryOnOutput
   either-carryOn t out k = (ap firstRefusal (carryOn-tests t out k), rw (ap firstRefusal (carryOn-tests t out k), carryOnOutput))
+
+  -- ---- 02: K8, and so it is where vertices are barred
+
+  open-tests-barring : (barred : ℕ) → openTestsBarring kind mark rows barred ≡ openTestsBarring kind mark′ rows barred
+  unfolding openTestsBarring
+  open-tests-barring barred = rw open-tests
+
+  pub either-open-barring : (barred : ℕ) → openBarring kind mark rows barred ≡ openBarring kind mark′ rows barred
+  unfolding openBarring
+  either-open-barring barred = ap firstRefusal (open-tests-barring barred)
+
+  judge-tests-barring : (barred : ℕ) (w : List ℕ) → judgeTestsBarring kind mark rows barred w ≡ judgeTestsBarring kind mark′ rows barred w
+  unfolding judgeTestsBarring
+  judge-tests-barring barred w = rw (open-tests-barring barred)
+
+  pub either-judge-barring : (barred : ℕ) (w : List ℕ) → judgeBarring kind mark rows barred w ≡ judgeBarring kind mark′ rows barred w
+  unfolding judgeBarring
+  either-judge-barring barred w = rw (ap firstRefusal (judge-tests-barring barred w), judgeBarring)
+
+  carryOn-tests-barring : (barred : ℕ) (t out : List ℕ) (k : ℕ) → carryOnTestsBarring kind mark rows barred t out k ≡ carryOnTestsBarring kind mark′ rows barred t out k
+  unfolding carryOnTestsBarring listTestsBarring
+  carryOn-tests-barring barred t out k = rw (open-tests-barring barred)
+
+  pub either-carryOn-barring : (barred : ℕ) (t out : List ℕ) (k : ℕ)
+      → (carryOnBarring kind mark rows barred t out k ≡ carryOnBarring kind mark′ rows barred t out k)
+      × (outputBarring kind mark rows barred t out k ≡ outputBarring kind mark′ rows barred t out k)
+  unfolding carryOnBarring outputBarring
+  either-carryOn-barring barred t out k =
+      (ap firstRefusal (carryOn-tests-barring barred t out k), rw (ap firstRefusal (carryOn-tests-barring barred t out k), outputBarring))

@@ -1,7 +1,8 @@
 -- Refusals: each is given exactly in its stated case.
 --   refuses-first, first-refuses, accepts-none, none-accepts   the answer is the first test that holds
 --   bitOutside-*, selfLoop-*, oneWay-*, vertexOutside-*, repeated-*   what the tests mean
---   judge-order, carryOn-order, open-order                     the numbers in the order in which they are tried
+--   numbers tests                                              the numbers of the tests, in the order in which they are tried
+--   judge-order, carryOn-order, open-order                     what these are
 -- Assumes nothing.
 use mathlib.Core.Path.{_≡_, refl, ap, subst}
 use mathlib.Core.Logic.{_⊎_, inl, inr}
@@ -69,7 +70,7 @@ none-accepts tests e = go (accepts-or-refuses tests)
 
 -- ---- the order in which the numbers are tried
 
-numbers : List (ℕ × Bool) → List ℕ
+unfoldable pub numbers : List (ℕ × Bool) → List ℕ
 numbers tests = map (λ (test : ℕ × Bool). test .0) tests
 
 -- open checks 1 to 5

@@ -8,6 +8,11 @@
 --   Accepts tests, Refuses r tests       no test holds; the first test that holds has number r
 --   judgeAnswer, openAnswer, carryOnAnswer   what is answered                                               [01: the calls]
 --   carryOnOutput kind mark rows t out k   what the output list then holds
+--   unbarred barred v                    v is in service: it is not one of the barred vertices               [02, K8: barred points]
+--   barredOutside n barred, barredNamed barred w k   a bit at or above n in the barred set; a barred vertex among the first k entries of w
+--   openTestsBarring, judgeTestsBarring, listTestsBarring, carryOnTestsBarring   what is refused where vertices are barred: on the whole graph     [02: K8]
+--   openBarring, judgeBarring, carryOnBarring, outputBarring   what is answered, and left in the output list, where vertices are barred: that of
+--                                        the graph without them                                              [02: K8]
 --   number, verdictOf, refusalOf         a refusal, a judgement and an outcome of the code as the papers' number and values
 use Prim.Native.Nat.{ℕ, _<_}
 use mathlib.Core.Path.{_≡_}
@@ -17,11 +22,13 @@ use mathlib.Core.List.{List, [], _∷_, _++_}
 use mathlib.Core.Option.{Option, none, some}
 use lib.Dec.{T, ltb, leb, eqb}
 use lib.ListN.{length, drop}
-use Rattle.bitset.specs.Below.{anyBelow}
+use Rattle.bitset.specs.Below.{anyBelow, countBelow}
+use Rattle.bitset.specs.Word.{member}
 use Rattle.searches.specs.Kind.{searchOf}
 use Rattle.searches.specs.Ordering.{arcs, at}
 use Rattle.searches.specs.Violation.{Verdict, passes, fails, refused, judge}
 use Rattle.searches.specs.CarryOn.{carryOn}
+use Rattle.searches.specs.Without.{judgeWithout, carryOnWithout}
 use Rattle.searches.specs.declared.Mark.{Mark}
 use Rattle.searches.specs.declared.Refusal.{Refusal}
 use Rattle.searches.specs.declared.Judgement.{Judgement}
@@ -121,6 +128,70 @@ module _ (kind : ℕ) (mark : Mark) (rows t out : List ℕ) (k : ℕ) where
         | some r ↦ out
       ]
 
+-- ---- with vertices out of service: the tests are on the whole graph, the answers those of the graph without them
+
+unfoldable pub unbarred : ℕ → ℕ → Bool
+unbarred barred v = not (member barred v)
+
+unfoldable pub barredOutside : ℕ → ℕ → Bool
+barredOutside n barred = anyBelow 64 (λ v. leb n v && member barred v)
+
+unfoldable pub barredNamed : ℕ → List ℕ → ℕ → Bool
+barredNamed barred w k = anyBelow k (λ p. member barred (at w p))
+
+unfoldable pub openTestsBarring : ℕ → Mark → List ℕ → ℕ → List (ℕ × Bool)
+openTestsBarring kind mark rows barred = openTests kind mark rows ++ (23, barredOutside (length rows) barred) ∷ []
+
+unfoldable pub judgeTestsBarring : ℕ → Mark → List ℕ → ℕ → List ℕ → List (ℕ × Bool)
+judgeTestsBarring kind mark rows barred w =
+    openTestsBarring kind mark rows barred
+    ++ (6, ltb (length rows) (length w))
+    ∷ (8, vertexOutside (length rows) w (length w))
+    ∷ (9, repeated w (length w))
+    ∷ (24, barredNamed barred w (length w))
+    ∷ []
+
+-- 24 is on the start: a tie-break names all vertices, and the barred ones are passed over
+unfoldable pub listTestsBarring : ℕ → Mark → List ℕ → ℕ → List ℕ → List ℕ → ℕ → List (ℕ × Bool)
+listTestsBarring kind mark rows barred t out k =
+    let n = length rows in
+    openTestsBarring kind mark rows barred
+    ++ (6, ltb n k)
+    ∷ (10, ltb (length out) n)
+    ∷ (7, not (eqb (length t) n))
+    ∷ (8, vertexOutside n out k || vertexOutside n t n)
+    ∷ (9, repeated out k || repeated t n)
+    ∷ (24, barredNamed barred out k)
+    ∷ []
+
+unfoldable pub carryOnTestsBarring : ℕ → Mark → List ℕ → ℕ → List ℕ → List ℕ → ℕ → List (ℕ × Bool)
+carryOnTestsBarring kind mark rows barred t out k =
+    listTestsBarring kind mark rows barred t out k
+    ++ (12, not (isPass (judgeWithout (searchOf kind) (arcs rows) (length rows) (unbarred barred) out k)))
+    ∷ []
+
+unfoldable pub openBarring : ℕ → Mark → List ℕ → ℕ → Option ℕ
+openBarring kind mark rows barred = firstRefusal (openTestsBarring kind mark rows barred)
+
+unfoldable pub judgeBarring : ℕ → Mark → List ℕ → ℕ → List ℕ → Verdict
+judgeBarring kind mark rows barred w =
+    elim (firstRefusal (judgeTestsBarring kind mark rows barred w)) [
+      | none ↦ judgeWithout (searchOf kind) (arcs rows) (length rows) (unbarred barred) w (length w)
+      | some r ↦ refused r
+    ]
+
+module _ (kind : ℕ) (mark : Mark) (rows : List ℕ) (barred : ℕ) (t out : List ℕ) (k : ℕ) where
+  unfoldable pub carryOnBarring : Option ℕ
+  carryOnBarring = firstRefusal (carryOnTestsBarring kind mark rows barred t out k)
+
+  -- on success as many vertices as are not barred, and behind them the bytes that stood there; on refusal what it was
+  unfoldable pub outputBarring : List ℕ
+  outputBarring =
+      elim (firstRefusal (carryOnTestsBarring kind mark rows barred t out k)) [
+        | none ↦ carryOnWithout (searchOf kind) (arcs rows) (length rows) (unbarred barred) t out k ++ drop (countBelow (length rows) (unbarred barred)) out
+        | some r ↦ out
+      ]
+
 unfoldable pub number : Refusal → ℕ
 number Refusal.UnknownKind = 1
 number Refusal.TooManyVertices = 2
@@ -144,6 +215,8 @@ number Refusal.RateTooHigh = 19
 number Refusal.OrderingFails = 20
 number Refusal.NotBreadthFirst = 21
 number Refusal.NotPlaced = 22
+number Refusal.BarredOutOfRange = 23
+number Refusal.BarredVertex = 24
 
 unfoldable pub verdictOf : Judgement → Verdict
 verdictOf Judgement.Passes = passes

@@ -6,5 +6,6 @@ pub mod Comparison
 pub mod Run
 pub mod Violation
 pub mod CarryOn
+pub mod Without
 pub mod Answer
 pub mod CarryOver

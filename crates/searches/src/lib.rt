@@ -96,6 +96,10 @@ pub enum Refusal {
     NotBreadthFirst,
     // 22
     NotPlaced,
+    // 23
+    BarredOutOfRange,
+    // 24
+    BarredVertex,
 }
 
 // What judging an ordering answers.

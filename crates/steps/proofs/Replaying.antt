@@ -1,5 +1,5 @@
 -- The replay of an ordering on words: its invariant, and how it goes on and ends.
---   Replaying s rows w k labels smallest largest weights stage j    j vertices are placed, none of which was beaten
+--   Replaying s rows all w k labels smallest largest weights stage j    j vertices are placed, none of which was beaten
 --   replay-placeable                              the next vertex can be placed
 --   asked                                         what the code asks of it
 --   replay-start, replay-next, replay-stop, replay-end
@@ -14,7 +14,7 @@ use native.Mathlib.Numerals.{add-one}
 use lib.Dec.{T, not-T}
 use lib.ListN.{length, getD, getD-replicate}
 use Rattle.bitset.specs.Below.{firstBelow}
-use Rattle.bitset.specs.Word.{member, inserted, removed, fullBelow}
+use Rattle.bitset.specs.Word.{member, inserted, removed}
 use Rattle.bitset.proofs.Tests.{and-out, is-true, below-suc}
 use Rattle.bitset.proofs.Below.{first-unique}
 use Rattle.bitset.proofs.Word as word
@@ -26,7 +26,7 @@ use Rattle.labels.specs.Words.{labelWith, smallestWith, largestWith, spreadBy, 
 use Rattle.offers.specs.Open.{beatenIn, openIn}
 use Rattle.labels.proofs.Weights.{weighed-none}
 use Rattle.offers.proofs.Narrowing.{all-offered}
-use Rattle.steps.specs.Steps.{grownBy, keptAfter, labelsAfter, smallestAfter, largestAfter, freeAfter, placedAfter, stopsAt, Staged, Placeable, Replayable}
+use Rattle.steps.specs.Steps.{Inside, grownBy, keptAfter, labelsAfter, smallestAfter, largestAfter, freeAfter, placedAfter, stopsAt, Staged, Placeable, Replayable}
 use Rattle.steps.specs.declared.place.Stage.{Stage}
 use Rattle.steps.proofs.Representation.{free-unplaced}
 use Rattle.steps.proofs.Tracking.{consistent-after}
@@ -36,24 +36,24 @@ pub grown-free : (rows : List ℕ) (free v u : ℕ) → T (member (grownBy rows 
 unfolding grownBy
 grown-free rows free v u t = and-out (member (getD rows v 0) u) (member (removed free v) u) (subst (λ (b : Bool). T b) (word.member-common (getD rows v 0) (removed free v) u) t) .1
 
-module _ (s : Search) (rows w : List ℕ) (k : ℕ) where
+module _ (s : Search) (rows : List ℕ) (all : ℕ) (w : List ℕ) (k : ℕ) where
   pub record Replaying (labels smallest largest weights : List ℕ) (stage : Stage) (j : ℕ) : Type 0 where
     pub upto : j ≤ k
-    pub labelled : labels ≡ labelsAfter rows w j
-    pub smallest-after : smallest ≡ smallestAfter rows w j
-    pub largest-after : largest ≡ largestAfter rows w j
+    pub labelled : labels ≡ labelsAfter rows all w j
+    pub smallest-after : smallest ≡ smallestAfter rows all w j
+    pub largest-after : largest ≡ largestAfter rows all w j
     pub set : stage .set ≡ placedAfter w j
-    pub unplaced : stage .free ≡ freeAfter (length rows) w j
+    pub unplaced : stage .free ≡ freeAfter all w j
     pub staged : Staged s labels weights stage j
-    pub unbeaten : (i : ℕ) → i < j → T (stopsAt s rows w i) → ⊥
+    pub unbeaten : (i : ℕ) → i < j → T (stopsAt s rows all w i) → ⊥
 
-  module _ {columns labels₀ smallest₀ largest₀ weights₀ : List ℕ} (x : Replayable rows columns w k labels₀ smallest₀ largest₀ weights₀) where
+  module _ {columns labels₀ smallest₀ largest₀ weights₀ : List ℕ} (inside : Inside (length rows) all) (x : Replayable rows columns all w k labels₀ smallest₀ largest₀ weights₀) where
     ordering : IsOrdering (length rows) w k
     ordering = record { long = x .long; vertices = x .vertices; distinct = x .distinct }
 
-    pub replay-start : {all : ℕ} → all ≡ fullBelow (length rows) → Replaying labels₀ smallest₀ largest₀ weights₀ (record { set = 0; free = all; reached = 0; offered = all }) 0
+    pub replay-start : all < 2 ^ 64 → {free : ℕ} → free ≡ all → Replaying labels₀ smallest₀ largest₀ weights₀ (record { set = 0; free = free; reached = 0; offered = free }) 0
     unfolding keptAfter placedAfter freeAfter
-    replay-start {all} e = record {
+    replay-start fits {free} e = record {
       upto = omega arith;
       labelled = x .empty;
       smallest-after = x .no-smallest;
@@ -63,7 +63,7 @@ module _ (s : Search) (rows w : List ℕ) (k : ℕ) where
       staged = record {
         earlier = λ v q l t. absurd (word.empty-back (none v l) q t);
         weighed = weighed-none s (x .empty) (x .no-weight);
-        offers = all-offered s labels₀ all (subst (λ (y : ℕ). y < 2 ^ 64) (sym e) (word.fullBelow-word (length rows))) (λ v l _. none v l);
+        offers = all-offered s labels₀ free (subst (λ (y : ℕ). y < 2 ^ 64) (sym e) fits) (λ v l _. none v l);
         covers = λ v l _. none v l;
         reaches = λ v l f t. absurd (word.empty-back refl v t);
       };
@@ -78,11 +78,11 @@ module _ (s : Search) (rows w : List ℕ) (k : ℕ) where
       turn-free : T (member (stage .free) b)
       turn-free =
           subst (λ (f : ℕ). T (member f b)) (sym (r .unplaced))
-          (subst (λ (v : ℕ). T (member (freeAfter (length rows) w j) v)) (sym h)
-          (subst (λ (t : Bool). T t) (sym (free-unplaced rows w (x .small) j (at w j) (x .vertices j l))) (not-T (placed w j (at w j)) (ordering-unplaced (length rows) ordering j l))))
+          (subst (λ (v : ℕ). T (member (freeAfter all w j) v)) (sym h)
+          (subst (λ (t : Bool). T t) (sym (free-unplaced all w j (at w j) (x .stays j l))) (not-T (placed w j (at w j)) (ordering-unplaced (length rows) ordering j l))))
 
       -- what the code asks of it
-      pub asked : {a : Bool} → a ≡ openIn s labels (stage .free) b → a ≡ not (stopsAt s rows w j)
+      pub asked : {a : Bool} → a ≡ openIn s labels (stage .free) b → a ≡ not (stopsAt s rows all w j)
       unfolding stopsAt openIn
       asked e =
           e ∙ ap (λ (t : Bool). t && not (beatenIn s labels (stage .free) (getD labels b 0))) (is-true (member (stage .free) b) turn-free)
@@ -103,12 +103,12 @@ module _ (s : Search) (rows w : List ℕ) (k : ℕ) where
               subst (λ (v : ℕ). Next (stage .set) (stage .free) v labels smallest largest) (sym h)
               (subst (λ (y : ℕ). Next y (stage .free) (at w j) labels smallest largest) (sym (r .set))
               (subst (λ (y : ℕ). Next (placedAfter w j) y (at w j) labels smallest largest) (sym (r .unplaced))
-              (subst (λ (ls : List ℕ). Next (placedAfter w j) (freeAfter (length rows) w j) (at w j) ls smallest largest) (sym (r .labelled))
-              (subst (λ (ss : List ℕ). Next (placedAfter w j) (freeAfter (length rows) w j) (at w j) (labelsAfter rows w j) ss largest) (sym (r .smallest-after))
-              (subst (λ (gs : List ℕ). Next (placedAfter w j) (freeAfter (length rows) w j) (at w j) (labelsAfter rows w j) (smallestAfter rows w j) gs) (sym (r .largest-after))
-              (consistent-after rows w k (x .small) ordering (x .transpose) (suc j) l (grownBy rows (freeAfter (length rows) w j) (at w j)) (grown-free rows (freeAfter (length rows) w j) (at w j))))))))
+              (subst (λ (ls : List ℕ). Next (placedAfter w j) (freeAfter all w j) (at w j) ls smallest largest) (sym (r .labelled))
+              (subst (λ (ss : List ℕ). Next (placedAfter w j) (freeAfter all w j) (at w j) (labelsAfter rows all w j) ss largest) (sym (r .smallest-after))
+              (subst (λ (gs : List ℕ). Next (placedAfter w j) (freeAfter all w j) (at w j) (labelsAfter rows all w j) (smallestAfter rows all w j) gs) (sym (r .largest-after))
+              (consistent-after rows all w k (x .small) inside ordering (x .transpose) (suc j) l (grownBy rows (freeAfter all w j) (at w j)) (grown-free rows (freeAfter all w j) (at w j))))))))
 
-      pub replay-next : (labels′ smallest′ largest′ : List ℕ) {weights′ : List ℕ} (stage′ : Stage) → (T (stopsAt s rows w j) → ⊥)
+      pub replay-next : (labels′ smallest′ largest′ : List ℕ) {weights′ : List ℕ} (stage′ : Stage) → (T (stopsAt s rows all w j) → ⊥)
           → labels′ ≡ spreadTo (grownBy rows (stage .free) b) j labels → smallest′ ≡ smallestTo (grownBy rows (stage .free) b) j smallest
           → largest′ ≡ largestTo (grownBy rows (stage .free) b) j largest → stage′ .set ≡ inserted (stage .set) b → stage′ .free ≡ removed (stage .free) b
           → Staged s labels′ weights′ stage′ (j + 1) → Replaying labels′ smallest′ largest′ weights′ stage′ (j + 1)
@@ -127,17 +127,17 @@ module _ (s : Search) (rows w : List ℕ) (k : ℕ) where
         where
           -- what is kept, with b placed
           grown : (put : ℕ → ℕ) {kept kept′ after : List ℕ} → kept′ ≡ spreadBy put (grownBy rows (stage .free) b) 64 kept → kept ≡ after
-              → kept′ ≡ spreadBy put (grownBy rows (freeAfter (length rows) w j) (at w j)) 64 after
+              → kept′ ≡ spreadBy put (grownBy rows (freeAfter all w j) (at w j)) 64 after
           grown put step now =
               step ∙ ap₂ (λ (row : ℕ) (ls : List ℕ). spreadBy put row 64 ls) (ap₂ (λ (y v : ℕ). grownBy rows y v) (r .unplaced) h) now
 
-          before : (i : ℕ) → (i < j) ⊎ (i ≡ j) → T (stopsAt s rows w i) → ⊥
+          before : (i : ℕ) → (i < j) ⊎ (i ≡ j) → T (stopsAt s rows all w i) → ⊥
           before i (inl h) t = r .unbeaten i h t
-          before i (inr same) t = go-on (subst (λ (y : ℕ). T (stopsAt s rows w y)) same t)
+          before i (inr same) t = go-on (subst (λ (y : ℕ). T (stopsAt s rows all w y)) same t)
 
-  pub replay-stop : {labels smallest largest weights : List ℕ} {stage : Stage} {j : ℕ} → Replaying labels smallest largest weights stage j → j < k → T (stopsAt s rows w j)
-      → j ≡ firstBelow k (stopsAt s rows w)
+  pub replay-stop : {labels smallest largest weights : List ℕ} {stage : Stage} {j : ℕ} → Replaying labels smallest largest weights stage j → j < k → T (stopsAt s rows all w j)
+      → j ≡ firstBelow k (stopsAt s rows all w)
   replay-stop r l t = first-unique (record { within = r .upto; holds = λ _. t; least = r .unbeaten })
 
-  pub replay-end : {labels smallest largest weights : List ℕ} {stage : Stage} {j : ℕ} → Replaying labels smallest largest weights stage j → k ≤ j → j ≡ firstBelow k (stopsAt s rows w)
+  pub replay-end : {labels smallest largest weights : List ℕ} {stage : Stage} {j : ℕ} → Replaying labels smallest largest weights stage j → k ≤ j → j ≡ firstBelow k (stopsAt s rows all w)
   replay-end r l = first-unique (record { within = r .upto; holds = λ h. absurd (omega arith); least = r .unbeaten })

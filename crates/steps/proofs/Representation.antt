@@ -1,33 +1,35 @@
 -- The words hold the labels and the unplaced vertices of searches/, and what is computed on them is what is defined there.
 --   cut-same, cut-below                      a set that ends at a bound;   meets-cut, outranks-cut, compared-cut   it is compared below it
---   free-word, free-members                  freeAfter: a word, which holds the unplaced vertices;   free-unplaced, free-vertex
+--   free-word, free-members                  freeAfter: a word, which holds the unplaced vertices;   free-unplaced, free-stays, free-vertex, free-size
+--   whole-members, whole-unbarred, whole-inside, whole-word   whole: a word, which holds the vertices that are not barred;   whole-count   how many
 --   free-earlier, grown-member               who is unplaced later, and whose label grows
 --   kept-length                              keptAfter: 64 values;   kept-start, kept-next   of an unplaced vertex
 --   label-members                            labelsAfter: words which hold the labels of the unplaced vertices
 --   ahead-same, compared-same                who is ahead, and how two stand to each other;   beaten-same, open-offered   who is beaten, who is offered
 -- Assumes nothing.
 use mathlib.Core.Path.{_≡_, refl, sym, ap, ap₂, _∙_, subst}
-use mathlib.Core.Bool.{Bool, true, false, cond, not, _&&_, _||_}
+use mathlib.Core.Bool.{Bool, true, false, cond, not, _&&_, _||_, and-assoc}
 use mathlib.Core.List.{List}
-use Prim.Native.Nat.{ℕ, zero, suc, _^_, _≤_, _<_}
+use Prim.Native.Nat.{ℕ, zero, suc, _+_, _^_, _≤_, _<_}
 use native.Mathlib.Omega.{arith}
-use lib.Dec.{T, ltb, eqb, ltb→lt, lt→ltb, leb·suc-zero}
+use lib.Dec.{T, ltb, eqb, ltb→lt, lt→ltb, leb·suc-zero, not-T}
 use lib.ListN.{length, getD, length-replicate, getD-replicate}
-use Rattle.bitset.specs.Below.{anyBelow}
-use Rattle.bitset.specs.Word.{member, removed}
+use Rattle.bitset.specs.Below.{anyBelow, countBelow}
+use Rattle.bitset.specs.Word.{member, removed, fullBelow}
 use Rattle.bitset.proofs.Tests.{and-same, and-out, and-true, same-test, is-true}
 use Rattle.bitset.proofs.Below.{any-fewer}
 use Rattle.bitset.proofs.Count.{count-fewer}
-use Rattle.bitset.proofs.Scan.{removed-in}
+use Rattle.bitset.proofs.Scan.{removed-in, removed-size}
 use Rattle.bitset.proofs.Word as word
 use Rattle.searches.specs.Kind.{Search, mns}
 use Rattle.searches.specs.Ordering.{arcs, at, placed, IsOrdering}
+use Rattle.searches.specs.Answer.{unbarred}
 use Rattle.searches.specs.Label.{label, outranks}
 use Rattle.searches.specs.Comparison.{alike, toldBy, compared}
-use Rattle.searches.specs.Run.{offered}
 use Rattle.searches.specs.Violation.{Condition, noneExcuses, counted, condition, meets}
 use Rattle.searches.proofs.Reason.{Reason, meets-in, meets-out, outranks→reason, reason→outranks}
-use Rattle.searches.proofs.Ordering.{ordering-fits}
+use Rattle.searches.proofs.Ordering.{ordering-fits, ordering-unplaced}
+use Rattle.searches.proofs.Kept.{offeredKept}
 use Rattle.searches.proofs.Level.{alike-in, alike-out, except-mns}
 use Rattle.searches.proofs.Comparing.{compared-mns, compared-ranked}
 use Rattle.labels.specs.Words.{aheadIn, comparedIn, labelWith, changedBy}
@@ -35,7 +37,7 @@ use Rattle.offers.specs.Open.{beatenIn, openIn}
 use Rattle.bitset.proofs.Joining.{suc-split}
 use Rattle.labels.proofs.Spreading.{member-joined}
 use Rattle.labels.proofs.Spreading.{spread-length, spread-at}
-use Rattle.steps.specs.Steps.{keptAfter, labelsAfter, freeAfter, grownBy}
+use Rattle.steps.specs.Steps.{whole, Inside, keptAfter, labelsAfter, freeAfter, grownBy}
 
 -- ---- sets that end at a bound
 
@@ -117,86 +119,121 @@ module _ (j m : ℕ) (c b c′ b′ : ℕ → Bool) (l : j ≤ m) (c-cut : (p : 
 
 -- ---- the unplaced vertices
 
-module _ (rows w : List ℕ) where
-  pub free-word : (j : ℕ) → freeAfter (length rows) w j < 2 ^ 64
+module _ (all : ℕ) (w : List ℕ) where
+  pub free-members : (j v : ℕ) → member (freeAfter all w j) v ≡ (member all v && not (placed w j v))
+  unfolding freeAfter placed anyBelow
+  free-members zero v = and-true (member all v)
+  free-members (suc j) v =
+      word.member-removed (freeAfter all w j) (at w j) v ∙ ap (λ (b : Bool). not (eqb (at w j) v) && b) (free-members j v)
+      ∙ neither (eqb (at w j) v) (member all v) (placed w j v)
+    where
+      neither : (a b c : Bool) → (not a && (b && not c)) ≡ (b && not (a || c))
+      neither true true c = refl
+      neither true false c = refl
+      neither false b c = refl
+
+  pub free-word : all < 2 ^ 64 → (j : ℕ) → freeAfter all w j < 2 ^ 64
   unfolding freeAfter
-  free-word zero = word.fullBelow-word (length rows)
-  free-word (suc j) = word.removed-word (free-word j) (at w j)
+  free-word h zero = h
+  free-word h (suc j) = word.removed-word (free-word h j) (at w j)
 
-  module _ (small : length rows ≤ 64) where
-    pub free-members : (j v : ℕ) → member (freeAfter (length rows) w j) v ≡ (ltb v (length rows) && not (placed w j v))
-    unfolding freeAfter placed anyBelow
-    free-members zero v = word.member-fullBelow small v ∙ and-true (ltb v (length rows))
-    free-members (suc j) v =
-        word.member-removed (freeAfter (length rows) w j) (at w j) v ∙ ap (λ (b : Bool). not (eqb (at w j) v) && b) (free-members j v)
-        ∙ neither (eqb (at w j) v) (ltb v (length rows)) (placed w j v)
-      where
-        neither : (a b c : Bool) → (not a && (b && not c)) ≡ (b && not (a || c))
-        neither true true c = refl
-        neither true false c = refl
-        neither false b c = refl
+  pub free-unplaced : (j v : ℕ) → T (member all v) → member (freeAfter all w j) v ≡ not (placed w j v)
+  free-unplaced j v t = free-members j v ∙ ap (λ (b : Bool). b && not (placed w j v)) (is-true (member all v) t)
 
-    pub free-unplaced : (j v : ℕ) → v < length rows → member (freeAfter (length rows) w j) v ≡ not (placed w j v)
-    free-unplaced j = cut-same (length rows) (member (freeAfter (length rows) w j)) (λ u. not (placed w j u)) (free-members j)
+  pub free-stays : (j v : ℕ) → T (member (freeAfter all w j) v) → T (member all v)
+  free-stays j v t = and-out (member all v) (not (placed w j v)) (subst (λ (b : Bool). T b) (free-members j v) t) .0
 
-    pub free-vertex : (j v : ℕ) → T (member (freeAfter (length rows) w j) v) → v < length rows
-    free-vertex j = cut-below (length rows) (member (freeAfter (length rows) w j)) (λ u. not (placed w j u)) (free-members j)
+  pub free-vertex : {n : ℕ} → Inside n all → (j v : ℕ) → T (member (freeAfter all w j) v) → v < n
+  free-vertex inside j v t = inside v (free-stays j v t)
+
+  -- a placed vertex is one unplaced less
+  pub free-size : {n : ℕ} (k : ℕ) → n ≤ 64 → IsOrdering n w k → ((p : ℕ) → p < k → T (member all (at w p))) → (j : ℕ) → j ≤ k
+      → j + countBelow 64 (member (freeAfter all w j)) ≡ countBelow 64 (member all)
+  unfolding freeAfter
+  free-size k small o stays zero h = let e : countBelow 64 (member (freeAfter all w 0)) ≡ countBelow 64 (member all) = refl in omega arith
+  free-size {n} k small o stays (suc j) h =
+      let v : ℕ = at w j in
+      let before = free-size k small o stays j (omega arith) in
+      let here : T (member (freeAfter all w j) v) = subst (λ (b : Bool). T b) (sym (free-unplaced j v (stays j h))) (not-T (placed w j v) (ordering-unplaced n o j h)) in
+      let more = removed-size (freeAfter all w j) v (omega (arith, o .vertices j h)) here in
+      omega arith
+
+-- ---- the vertices that are not barred
+
+module _ {n : ℕ} (small : n ≤ 64) (barred : ℕ) where
+  pub whole-members : (v : ℕ) → member (whole n barred) v ≡ (ltb v n && not (member barred v))
+  unfolding whole
+  whole-members v = word.member-difference (fullBelow n) barred v ∙ ap (λ (b : Bool). b && not (member barred v)) (word.member-fullBelow small v)
+
+  pub whole-unbarred : (v : ℕ) → v < n → member (whole n barred) v ≡ unbarred barred v
+  unfolding unbarred
+  whole-unbarred v l = whole-members v ∙ ap (λ (b : Bool). b && not (member barred v)) (is-true (ltb v n) (lt→ltb v n l))
+
+  pub whole-inside : Inside n (whole n barred)
+  whole-inside v t = ltb→lt v n (and-out (ltb v n) (not (member barred v)) (subst (λ (b : Bool). T b) (whole-members v) t) .0)
+
+  pub whole-count : countBelow 64 (member (whole n barred)) ≡ countBelow n (unbarred barred)
+  whole-count = count-fewer n 64 small (member (whole n barred)) (unbarred barred) whole-unbarred whole-inside
+
+pub whole-word : (n barred : ℕ) → whole n barred < 2 ^ 64
+unfolding whole
+whole-word n barred = word.difference-word (word.fullBelow-word n) barred
 
 -- ---- what is kept, vertex by vertex
 
-module _ (rows w : List ℕ) where
+module _ (rows : List ℕ) (all : ℕ) (w : List ℕ) where
   -- who is unplaced later is unplaced now, and of those the next vertex makes the labels grow that it leads to
-  pub free-earlier : (j v : ℕ) → T (member (freeAfter (length rows) w (suc j)) v) → T (member (freeAfter (length rows) w j) v)
+  pub free-earlier : (j v : ℕ) → T (member (freeAfter all w (suc j)) v) → T (member (freeAfter all w j) v)
   unfolding freeAfter
-  free-earlier j v t = removed-in (freeAfter (length rows) w j) (at w j) v t .1
+  free-earlier j v t = removed-in (freeAfter all w j) (at w j) v t .1
 
-  pub grown-member : (j v : ℕ) → T (member (freeAfter (length rows) w (suc j)) v) → member (grownBy rows (freeAfter (length rows) w j) (at w j)) v ≡ member (getD rows (at w j) 0) v
+  pub grown-member : (j v : ℕ) → T (member (freeAfter all w (suc j)) v) → member (grownBy rows (freeAfter all w j) (at w j)) v ≡ member (getD rows (at w j) 0) v
   unfolding freeAfter grownBy
   grown-member j v t =
-      let free = removed (freeAfter (length rows) w j) (at w j) in
+      let free = removed (freeAfter all w j) (at w j) in
       word.member-common (getD rows (at w j) 0) free v ∙ ap (λ (b : Bool). member (getD rows (at w j) 0) v && b) (is-true (member free v) t) ∙ sym (and-true (member (getD rows (at w j) 0) v))
 
-module _ (put : ℕ → ℕ → ℕ) (start : ℕ) (rows w : List ℕ) where
-  pub kept-length : (j : ℕ) → length (keptAfter put start rows w j) ≡ 64
+module _ (put : ℕ → ℕ → ℕ) (start : ℕ) (rows : List ℕ) (all : ℕ) (w : List ℕ) where
+  pub kept-length : (j : ℕ) → length (keptAfter put start rows all w j) ≡ 64
   unfolding keptAfter
   kept-length zero = length-replicate {A = ℕ} 64 start
-  kept-length (suc j) = spread-length (put j) (grownBy rows (freeAfter (length rows) w j) (at w j)) (keptAfter put start rows w j) 64 ∙ kept-length j
+  kept-length (suc j) = spread-length (put j) (grownBy rows (freeAfter all w j) (at w j)) (keptAfter put start rows all w j) 64 ∙ kept-length j
 
-  pub kept-start : (v : ℕ) → v < 64 → getD (keptAfter put start rows w 0) v 0 ≡ start
+  pub kept-start : (v : ℕ) → v < 64 → getD (keptAfter put start rows all w 0) v 0 ≡ start
   unfolding keptAfter
   kept-start v l = getD-replicate 64 v start 0 l
 
   -- of an unplaced vertex
-  pub kept-next : (j v : ℕ) → v < 64 → T (member (freeAfter (length rows) w (suc j)) v)
-      → getD (keptAfter put start rows w (suc j)) v 0 ≡ changedBy (put j) (getD rows (at w j) 0) v (getD (keptAfter put start rows w j) v 0)
+  pub kept-next : (j v : ℕ) → v < 64 → T (member (freeAfter all w (suc j)) v)
+      → getD (keptAfter put start rows all w (suc j)) v 0 ≡ changedBy (put j) (getD rows (at w j) 0) v (getD (keptAfter put start rows all w j) v 0)
   unfolding keptAfter changedBy
   kept-next j v l f =
-      let old = getD (keptAfter put start rows w j) v 0 in
-      spread-at (put j) (grownBy rows (freeAfter (length rows) w j) (at w j)) (keptAfter put start rows w j) 64 v (omega (arith, kept-length j)) l
-      ∙ ap (λ (b : Bool). cond b (put j old) old) (grown-member rows w j v f)
+      let old = getD (keptAfter put start rows all w j) v 0 in
+      spread-at (put j) (grownBy rows (freeAfter all w j) (at w j)) (keptAfter put start rows all w j) 64 v (omega (arith, kept-length j)) l
+      ∙ ap (λ (b : Bool). cond b (put j old) old) (grown-member rows all w j v f)
 
 -- ---- the labels
 
-module _ (rows w : List ℕ) (k : ℕ) (small : length rows ≤ 64) (o : IsOrdering (length rows) w k) where
+module _ (rows : List ℕ) (all : ℕ) (w : List ℕ) (k : ℕ) (small : length rows ≤ 64) (inside : Inside (length rows) all) (o : IsOrdering (length rows) w k) where
   -- of an unplaced vertex
-  pub label-members : (j : ℕ) → j ≤ k → (v : ℕ) → T (member (freeAfter (length rows) w j) v) → (p : ℕ)
-      → member (getD (labelsAfter rows w j) v 0) p ≡ (ltb p j && label (arcs rows) w v p)
+  pub label-members : (j : ℕ) → j ≤ k → (v : ℕ) → T (member (freeAfter all w j) v) → (p : ℕ)
+      → member (getD (labelsAfter rows all w j) v 0) p ≡ (ltb p j && label (arcs rows) w v p)
   unfolding label arcs
   label-members zero h v f p =
-      let l = free-vertex rows w small 0 v f in
-      ap (λ (x : ℕ). member x p) (kept-start labelWith 0 rows w v (omega arith)) ∙ word.member-zero p
+      let l = free-vertex all w inside 0 v f in
+      ap (λ (x : ℕ). member x p) (kept-start labelWith 0 rows all w v (omega arith)) ∙ word.member-zero p
       ∙ ap (λ (b : Bool). b && label (arcs rows) w v p) (sym (leb·suc-zero p))
   label-members (suc j) h v f p =
       let row = getD rows (at w j) 0 in
-      let labels = labelsAfter rows w j in
-      let l = free-vertex rows w small (suc j) v f in
-      ap (λ (x : ℕ). member x p) (kept-next labelWith 0 rows w j v (omega arith) f)
+      let labels = labelsAfter rows all w j in
+      let l = free-vertex all w inside (suc j) v f in
+      ap (λ (x : ℕ). member x p) (kept-next labelWith 0 rows all w j v (omega arith) f)
       ∙ member-joined row j v (getD labels v 0) (omega (arith, ordering-fits (length rows) o)) p
-      ∙ ap (λ (b : Bool). (eqb j p && member row v) || b) (label-members j (omega arith) v (free-earlier rows w j v f) p) ∙ suc-split j p (label (arcs rows) w v)
+      ∙ ap (λ (b : Bool). (eqb j p && member row v) || b) (label-members j (omega arith) v (free-earlier rows all w j v f) p) ∙ suc-split j p (label (arcs rows) w v)
 
 -- ---- who is ahead, beaten, offered
 
-module _ (s : Search) (rows w : List ℕ) (k : ℕ) (small : length rows ≤ 64) (o : IsOrdering (length rows) w k) where
+module _ (s : Search) (rows : List ℕ) (all : ℕ) (w : List ℕ) (k : ℕ) (small : length rows ≤ 64) (inside : Inside (length rows) all) (o : IsOrdering (length rows) w k) where
   abbrev n : ℕ
   n = length rows
 
@@ -205,38 +242,43 @@ module _ (s : Search) (rows w : List ℕ) (k : ℕ) (small : length rows ≤ 64)
 
   -- the words after the first j vertices
   abbrev labels : ℕ → List ℕ
-  labels = labelsAfter rows w
+  labels = labelsAfter rows all w
 
   abbrev free : ℕ → ℕ
-  free = freeAfter (length rows) w
+  free = freeAfter all w
 
   pub ahead-same : (j u v : ℕ) → j ≤ k → T (member (free j) u) → T (member (free j) v)
       → aheadIn s (getD (labels j) u 0) (getD (labels j) v 0) ≡ outranks s j (label arc w u) (label arc w v)
   unfolding aheadIn
   ahead-same j u v h a b =
       outranks-cut j 64 (member (getD (labels j) u 0)) (member (getD (labels j) v 0)) (label arc w u) (label arc w v)
-      (omega (arith, ordering-fits n o)) (label-members rows w k small o j h u a) (label-members rows w k small o j h v b) s
+      (omega (arith, ordering-fits n o)) (label-members rows all w k small inside o j h u a) (label-members rows all w k small inside o j h v b) s
 
   pub compared-same : (j u v : ℕ) → j ≤ k → T (member (free j) u) → T (member (free j) v)
       → comparedIn s (getD (labels j) u 0) (getD (labels j) v 0) ≡ compared s j (label arc w u) (label arc w v)
   unfolding comparedIn
   compared-same j u v h a b =
       compared-cut j 64 (member (getD (labels j) u 0)) (member (getD (labels j) v 0)) (label arc w u) (label arc w v)
-      (omega (arith, ordering-fits n o)) (label-members rows w k small o j h u a) (label-members rows w k small o j h v b) s
+      (omega (arith, ordering-fits n o)) (label-members rows all w k small inside o j h u a) (label-members rows all w k small inside o j h v b) s
 
   pub beaten-same : (j v : ℕ) → j ≤ k → T (member (free j) v)
       → beatenIn s (labels j) (free j) (getD (labels j) v 0)
-      ≡ anyBelow n (λ u. not (placed w j u) && outranks s j (label arc w u) (label arc w v))
+      ≡ anyBelow n (λ u. member all u && (not (placed w j u) && outranks s j (label arc w u) (label arc w v)))
   unfolding beatenIn
   beaten-same j v h l =
       any-fewer n 64 small (λ u. member (free j) u && aheadIn s (getD (labels j) u 0) (getD (labels j) v 0))
-      (λ u. not (placed w j u) && outranks s j (label arc w u) (label arc w v))
+      (λ u. member all u && (not (placed w j u) && outranks s j (label arc w u) (label arc w v)))
       (λ u g. and-same (member (free j) u) _ _ (λ f. ahead-same j u v h f l)
-      ∙ ap (λ (b : Bool). b && outranks s j (label arc w u) (label arc w v)) (free-unplaced rows w small j u g))
-      (λ u t. free-vertex rows w small j u (and-out (member (free j) u) (aheadIn s (getD (labels j) u 0) (getD (labels j) v 0)) t .0))
+      ∙ ap (λ (b : Bool). b && outranks s j (label arc w u) (label arc w v)) (free-members all w j u)
+      ∙ and-assoc (member all u) (not (placed w j u)) (outranks s j (label arc w u) (label arc w v)))
+      (λ u t. free-vertex all w inside j u (and-out (member (free j) u) (aheadIn s (getD (labels j) u 0) (getD (labels j) v 0)) t .0))
 
-  pub open-offered : (j : ℕ) → j ≤ k → (v : ℕ) → openIn s (labels j) (free j) v ≡ offered s arc n w j v
-  unfolding openIn offered
+  -- offered are the unplaced vertices of `all` that none of these is ahead of
+  pub open-offered : (j : ℕ) → j ≤ k → (v : ℕ) → openIn s (labels j) (free j) v ≡ offeredKept s arc n (member all) w j v
+  unfolding openIn offeredKept
   open-offered j h v =
-      and-same (member (free j) v) _ _ (λ t. ap not (beaten-same j v h t))
-      ∙ ap (λ (b : Bool). b && not (anyBelow n (λ u. not (placed w j u) && outranks s j (label arc w u) (label arc w v)))) (free-members rows w small j v)
+      let beaten = anyBelow n (λ u. member all u && (not (placed w j u) && outranks s j (label arc w u) (label arc w v))) in
+      and-same (member (free j) v) _ _ (λ t. ap not (beaten-same j v h t)) ∙ ap (λ (b : Bool). b && not beaten) (free-members all w j v)
+      ∙ and-assoc (member all v) (not (placed w j v)) (not beaten)
+      ∙ and-same (member all v) (not (placed w j v) && not beaten) (ltb v n && not (placed w j v) && not beaten)
+      (λ t. ap (λ (b : Bool). b && not (placed w j v) && not beaten) (sym (is-true (ltb v n) (lt→ltb v n (inside v t)))))

@@ -24,7 +24,7 @@ use Rattle.labels.specs.Weights.{tally}
 use Rattle.labels.specs.Words.{labelWith, joinedIn}
 use Rattle.labels.proofs.Spreading.{member-joined}
 use Rattle.lookup.specs.Columns.{Transposed}
-use Rattle.steps.specs.Steps.{labelsAfter, freeAfter, placedAfter}
+use Rattle.steps.specs.Steps.{Inside, labelsAfter, freeAfter, placedAfter}
 use Rattle.steps.proofs.Representation.{cut-below, free-vertex, free-earlier, kept-start, kept-next, label-members}
 
 -- ---- one number more
@@ -85,30 +85,30 @@ module _ (rows w : List ℕ) (k : ℕ) (small : length rows ≤ 64) (o : IsOrder
       word.member-inserted (placedAfter w j) {e = at w j} (omega (arith, o .vertices j h)) v
       ∙ ap (λ (b : Bool). eqb (at w j) v || b) (placed-members j (omega arith) v)
 
-  module _ (columns : List ℕ) (transpose : Transposed rows columns) where
+  module _ (all : ℕ) (inside : Inside (length rows) all) (columns : List ℕ) (transpose : Transposed rows columns) where
     -- of an unplaced vertex
-    pub tallied-after : (j : ℕ) → j ≤ k → (v : ℕ) → T (member (freeAfter (length rows) w j) v)
-        → tally columns (placedAfter w j) v ≡ countBelow 64 (member (getD (labelsAfter rows w j) v 0))
+    pub tallied-after : (j : ℕ) → j ≤ k → (v : ℕ) → T (member (freeAfter all w j) v)
+        → tally columns (placedAfter w j) v ≡ countBelow 64 (member (getD (labelsAfter rows all w j) v 0))
     unfolding placedAfter tally arcs
     tallied-after zero h v f =
-        let l = free-vertex rows w small 0 v f in
+        let l = free-vertex all w inside 0 v f in
         count-none 64 (member (common (getD columns v 0) 0)) (λ p _ t. word.empty-back refl p (and-out (member (getD columns v 0) p) (member 0 p) (subst (λ (x : Bool). T x) (word.member-common (getD columns v 0) 0 p) t) .1))
-        ∙ sym (count-none 64 (member (getD (labelsAfter rows w 0) v 0)) (λ p _. word.empty-back (kept-start labelWith 0 rows w v (omega arith)) p))
+        ∙ sym (count-none 64 (member (getD (labelsAfter rows all w 0) v 0)) (λ p _. word.empty-back (kept-start labelWith 0 rows all w v (omega arith)) p))
     tallied-after (suc j) h v f =
         let u : ℕ = at w j in
         let row = getD rows u 0 in
-        let old = getD (labelsAfter rows w j) v 0 in
-        let vertex = free-vertex rows w small (suc j) v f in
-        let before = free-earlier rows w j v f in
+        let old = getD (labelsAfter rows all w j) v 0 in
+        let vertex = free-vertex all w inside (suc j) v f in
+        let before = free-earlier rows all w j v f in
         let here = o .vertices j h in
         -- the vertex is placed for the first time, and its position is in no label yet
         let fresh : T (member (placedAfter w j) u) → ⊥ =
         λ t. ordering-unplaced (length rows) o j h (subst (λ (x : Bool). T x) (placed-members j (omega arith) u) t)
         in
         let unused : T (member old j) → ⊥ =
-        λ t. omega (arith, cut-below j (member old) (label (arcs rows) w v) (label-members rows w k small o j (omega arith) v before) j t)
+        λ t. omega (arith, cut-below j (member old) (label (arcs rows) w v) (label-members rows all w k small inside o j (omega arith) v before) j t)
         in
         tally-more (getD columns v 0) (placedAfter w j) u (omega arith) fresh
         ∙ ap₂ (λ (b : Bool) (x : ℕ). cond b (suc x) x) (transpose .swapped u v here vertex) (tallied-after j (omega arith) v before)
         ∙ sym (label-more row j v old (omega (arith, ordering-fits (length rows) o)) unused)
-        ∙ sym (ap (λ (x : ℕ). countBelow 64 (member x)) (kept-next labelWith 0 rows w j v (omega arith) f))
+        ∙ sym (ap (λ (x : ℕ). countBelow 64 (member x)) (kept-next labelWith 0 rows all w j v (omega arith) f))

@@ -25,7 +25,7 @@ use Rattle.searches.proofs.Running.{smallest-found, smallest-absent, largest-fo
 use Rattle.labels.specs.Weights.{smallestByte, largestByte, Consistent}
 use Rattle.labels.specs.Words.{labelWith, smallestWith, largestWith, changedBy}
 use Rattle.lookup.specs.Columns.{Transposed}
-use Rattle.steps.specs.Steps.{labelsAfter, smallestAfter, largestAfter, freeAfter, placedAfter}
+use Rattle.steps.specs.Steps.{Inside, labelsAfter, smallestAfter, largestAfter, freeAfter, placedAfter}
 use Rattle.steps.proofs.Representation.{cut-same, cut-below, free-vertex, free-earlier, kept-length, kept-start, kept-next, label-members}
 use Rattle.steps.proofs.Tallying.{tallied-after}
 
@@ -72,16 +72,16 @@ module _ (j m : ℕ) (l : j ≤ m) (f f′ : ℕ → Bool) (cut : (p : ℕ) → 
 
 -- ---- along an ordering
 
-module _ (rows w : List ℕ) (k : ℕ) (small : length rows ≤ 64) (o : IsOrdering (length rows) w k) where
+module _ (rows : List ℕ) (all : ℕ) (w : List ℕ) (k : ℕ) (small : length rows ≤ 64) (inside : Inside (length rows) all) (o : IsOrdering (length rows) w k) where
   abbrev arc : ℕ → ℕ → Bool
   arc = arcs rows
 
-  pub smallest-running : (j : ℕ) → j ≤ k → (v : ℕ) → T (member (freeAfter (length rows) w j) v) → getD (smallestAfter rows w j) v 0 ≡ smallestByte (runningSmallest arc w v j)
+  pub smallest-running : (j : ℕ) → j ≤ k → (v : ℕ) → T (member (freeAfter all w j) v) → getD (smallestAfter rows all w j) v 0 ≡ smallestByte (runningSmallest arc w v j)
   unfolding changedBy smallestWith smallestByte label arcs empty anyBelow
-  smallest-running zero h v f = kept-start smallestWith 64 rows w v (omega (arith, free-vertex rows w small 0 v f)) ∙ ap smallestByte (sym (smallest-none arc w v 0 .1 tt))
+  smallest-running zero h v f = kept-start smallestWith 64 rows all w v (omega (arith, free-vertex all w inside 0 v f)) ∙ ap smallestByte (sym (smallest-none arc w v 0 .1 tt))
   smallest-running (suc j) h v f =
-      kept-next smallestWith 64 rows w j v (omega (arith, free-vertex rows w small (suc j) v f)) f
-      ∙ ap (changedBy (smallestWith j) row v) (smallest-running j (omega arith) v (free-earlier rows w j v f)) ∙ go (decided (label arc w v j))
+      kept-next smallestWith 64 rows all w j v (omega (arith, free-vertex all w inside (suc j) v f)) f
+      ∙ ap (changedBy (smallestWith j) row v) (smallest-running j (omega arith) v (free-earlier rows all w j v f)) ∙ go (decided (label arc w v j))
     where
       row : ℕ
       row = getD rows (at w j) 0
@@ -109,12 +109,12 @@ module _ (rows w : List ℕ) (k : ℕ) (small : length rows ≤ 64) (o : IsOrder
       go (inr same) =
           cond-no (member row v) (smallestWith j (smallestByte now)) (smallestByte now) same ∙ ap smallestByte (sym (unchanged-unless-grown arc w v j same .0))
 
-  pub largest-running : (j : ℕ) → j ≤ k → (v : ℕ) → T (member (freeAfter (length rows) w j) v) → getD (largestAfter rows w j) v 0 ≡ largestByte (runningLargest arc w v j)
+  pub largest-running : (j : ℕ) → j ≤ k → (v : ℕ) → T (member (freeAfter all w j) v) → getD (largestAfter rows all w j) v 0 ≡ largestByte (runningLargest arc w v j)
   unfolding changedBy largestByte label arcs empty anyBelow
-  largest-running zero h v f = kept-start largestWith 0 rows w v (omega (arith, free-vertex rows w small 0 v f)) ∙ ap largestByte (sym (largest-none arc w v 0 .1 tt))
+  largest-running zero h v f = kept-start largestWith 0 rows all w v (omega (arith, free-vertex all w inside 0 v f)) ∙ ap largestByte (sym (largest-none arc w v 0 .1 tt))
   largest-running (suc j) h v f =
-      kept-next largestWith 0 rows w j v (omega (arith, free-vertex rows w small (suc j) v f)) f
-      ∙ ap (changedBy (largestWith j) row v) (largest-running j (omega arith) v (free-earlier rows w j v f)) ∙ go (decided (label arc w v j))
+      kept-next largestWith 0 rows all w j v (omega (arith, free-vertex all w inside (suc j) v f)) f
+      ∙ ap (changedBy (largestWith j) row v) (largest-running j (omega arith) v (free-earlier rows all w j v f)) ∙ go (decided (label arc w v j))
     where
       row : ℕ
       row = getD rows (at w j) 0
@@ -127,22 +127,22 @@ module _ (rows w : List ℕ) (k : ℕ) (small : length rows ≤ 64) (o : IsOrder
       go (inr same) = cond-no (member row v) (suc j) now same ∙ ap largestByte (sym (unchanged-unless-grown arc w v j same .1))
 
   -- of an unplaced vertex
-  pub tracked-after : (j : ℕ) → j ≤ k → (v : ℕ) → T (member (freeAfter (length rows) w j) v)
-      → let word = getD (labelsAfter rows w j) v 0 in
-      (getD (smallestAfter rows w j) v 0 ≡ smallestByte (smallestIn 64 (member word))) × (getD (largestAfter rows w j) v 0 ≡ largestByte (largestIn 64 (member word)))
+  pub tracked-after : (j : ℕ) → j ≤ k → (v : ℕ) → T (member (freeAfter all w j) v)
+      → let word = getD (labelsAfter rows all w j) v 0 in
+      (getD (smallestAfter rows all w j) v 0 ≡ smallestByte (smallestIn 64 (member word))) × (getD (largestAfter rows all w j) v 0 ≡ largestByte (largestIn 64 (member word)))
   tracked-after j h v f =
-      let word = getD (labelsAfter rows w j) v 0 in
+      let word = getD (labelsAfter rows all w j) v 0 in
       let fits : j ≤ 64 = omega (arith, ordering-fits (length rows) o) in
-      let cut = label-members rows w k small o j h v f in (
+      let cut = label-members rows all w k small inside o j h v f in (
         smallest-running j h v f ∙ ap smallestByte (smallest-kept arc w v j ∙ sym (smallest-cut j 64 fits (member word) (label arc w v) cut)),
         largest-running j h v f ∙ ap largestByte (largest-kept arc w v j ∙ sym (largest-cut j 64 fits (member word) (label arc w v) cut)),
       )
 
-  pub consistent-after : {columns : List ℕ} → Transposed rows columns → (j : ℕ) → j ≤ k → (row : ℕ) → ((v : ℕ) → T (member row v) → T (member (freeAfter (length rows) w j) v))
-      → Consistent columns (placedAfter w j) row (labelsAfter rows w j) (smallestAfter rows w j) (largestAfter rows w j)
+  pub consistent-after : {columns : List ℕ} → Transposed rows columns → (j : ℕ) → j ≤ k → (row : ℕ) → ((v : ℕ) → T (member row v) → T (member (freeAfter all w j) v))
+      → Consistent columns (placedAfter w j) row (labelsAfter rows all w j) (smallestAfter rows all w j) (largestAfter rows all w j)
   consistent-after {columns} transpose j h row unplaced = record {
-    long = (kept-length labelWith 0 rows w j, kept-length smallestWith 64 rows w j, kept-length largestWith 0 rows w j);
-    tallied = λ v _ t. tallied-after rows w k small o columns transpose j h v (unplaced v t);
+    long = (kept-length labelWith 0 rows all w j, kept-length smallestWith 64 rows all w j, kept-length largestWith 0 rows all w j);
+    tallied = λ v _ t. tallied-after rows w k small o all inside columns transpose j h v (unplaced v t);
     smallest-kept = λ v _ t. tracked-after j h v (unplaced v t) .0;
     largest-kept = λ v _ t. tracked-after j h v (unplaced v t) .1;
   }

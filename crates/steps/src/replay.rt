@@ -8,7 +8,7 @@ ghost use mathlib.Core.Path.{_≡_};
 ghost use lib.ListN.{length};
 ghost use Rattle.bitset.specs.Below.{firstBelow};
 ghost use Rattle.searches.specs.Kind.{searchOf};
-ghost use Rattle.steps.specs.Steps.{labelsAfter, smallestAfter, largestAfter, placedAfter, freeAfter, stopsAt, Staged, Replayable};
+ghost use Rattle.steps.specs.Steps.{whole, labelsAfter, smallestAfter, largestAfter, placedAfter, freeAfter, stopsAt, Staged, Replayable};
 
 // How many vertices a replay placed, and the stage that it then reached.
 pub struct Replayed {
@@ -16,13 +16,14 @@ pub struct Replayed {
     pub stage: Stage,
 }
 
-// Places the first `k` vertices of `ordering` up to the first that was not offered. `labels` comes in empty, `smallest` and `largest` without a
+// Places the first `k` vertices of `ordering` up to the first that was not offered; nobody of `barred` is ever unplaced. `labels` comes in empty, `smallest` and `largest` without a
 // position (64 and 0), `weights` with zeros; they go out with the labels, the running values and the weights of that moment. `columns` are the rows,
 // transposed.
 pub fn replay(
     kind: Kind,
     rows: &[u64],
     columns: &[u64],
+    barred: u64,
     ordering: &[u8],
     k: usize,
     labels: &mut [u64; 64],
@@ -30,16 +31,16 @@ pub fn replay(
     largest: &mut [u8; 64],
     weights: &mut [u64; 64],
 ) -> Replayed
-    requires { ⌜ Replayable (now rows) (now columns) (now ordering) k (now labels) (now smallest) (now largest) (now weights) ⌝ }
-    ensures count { λ r. ⌜ r .count ≡ firstBelow k (stopsAt (searchOf (kind .0)) (now (rows .entry)) (now (ordering .entry))) ⌝ }
+    requires { ⌜ Replayable (now rows) (now columns) (whole (length (now rows)) barred) (now ordering) k (now labels) (now smallest) (now largest) (now weights) ⌝ }
+    ensures count { λ r. ⌜ r .count ≡ firstBelow k (stopsAt (searchOf (kind .0)) (now (rows .entry)) (whole (length (now (rows .entry))) barred) (now (ordering .entry))) ⌝ }
     ensures set { λ r. ⌜ r .stage .set ≡ placedAfter (now (ordering .entry)) (r .count) ⌝ }
-    ensures free { λ r. ⌜ r .stage .free ≡ freeAfter (length (now (rows .entry))) (now (ordering .entry)) (r .count) ⌝ }
-    ensures labels { λ r. ⌜ now (labels .exit) ≡ labelsAfter (now (rows .entry)) (now (ordering .entry)) (r .count) ⌝ }
-    ensures smallest { λ r. ⌜ now (smallest .exit) ≡ smallestAfter (now (rows .entry)) (now (ordering .entry)) (r .count) ⌝ }
-    ensures largest { λ r. ⌜ now (largest .exit) ≡ largestAfter (now (rows .entry)) (now (ordering .entry)) (r .count) ⌝ }
+    ensures free { λ r. ⌜ r .stage .free ≡ freeAfter (whole (length (now (rows .entry))) barred) (now (ordering .entry)) (r .count) ⌝ }
+    ensures labels { λ r. ⌜ now (labels .exit) ≡ labelsAfter (now (rows .entry)) (whole (length (now (rows .entry))) barred) (now (ordering .entry)) (r .count) ⌝ }
+    ensures smallest { λ r. ⌜ now (smallest .exit) ≡ smallestAfter (now (rows .entry)) (whole (length (now (rows .entry))) barred) (now (ordering .entry)) (r .count) ⌝ }
+    ensures largest { λ r. ⌜ now (largest .exit) ≡ largestAfter (now (rows .entry)) (whole (length (now (rows .entry))) barred) (now (ordering .entry)) (r .count) ⌝ }
     ensures staged { λ r. ⌜ Staged (searchOf (kind .0)) (now (labels .exit)) (now (weights .exit)) (r .stage) (r .count) ⌝ }
 {
-    let all = bitset::full_below(rows.len());
+    let all = bitset::without(bitset::full_below(rows.len()), barred);
     let mut stage = Stage {
         set: 0,
         free: all,

@@ -26,7 +26,7 @@ use Rattle.searches.proofs.Judge.{third-vertex}
 use Rattle.labels.specs.Words.{unexcusedIn}
 use Rattle.steps.specs.Steps.{freeAfter}
 use Rattle.violation.specs.Fault.{violatesIn, lastIn, firstIn, frontIn, completesIn, behindIn, lastOf, Searchable}
-use Rattle.steps.proofs.Representation.{free-unplaced, free-vertex}
+use Rattle.steps.proofs.Representation.{free-members, free-vertex}
 
 -- ---- the front
 
@@ -82,7 +82,7 @@ module _ (s : Search) (rows w labels : List ℕ) (free k j i : ℕ) {front mine 
     last = lastIn s rows w labels free j k i
 
     -- what the front says of c
-    in-front : (c : ℕ) → T (test c) → T (leads c) × T (member (freeAfter n w j) c)
+    in-front : (c : ℕ) → T (test c) → T (leads c) × T (member (freeAfter (able .all) w j) c)
     unfolding completesIn
     in-front c t =
         let inside = and-out (member front c) (unexcusedIn s i (getD labels c 0) mine) t .0 in
@@ -90,14 +90,15 @@ module _ (s : Search) (rows w labels : List ℕ) (free k j i : ℕ) {front mine 
         (both .0, subst (λ (x : ℕ). T (member x c)) (able .unplaced) (both .1))
 
     pub completes-vertex : (c : ℕ) → T (test c) → c < n
-    completes-vertex c t = free-vertex rows w (able .small) j c (in-front c t .1)
+    completes-vertex c t = free-vertex (able .all) w (able .within) j c (in-front c t .1)
 
     pub completes-behind : (p : ℕ) → p < k → T (test (at w p)) → j < p
     completes-behind p l t = go (three-ways p j) (in-front (at w p) t)
       where
-        go : (p < j) ⊎ ((p ≡ j) ⊎ (j < p)) → T (leads (at w p)) × T (member (freeAfter n w j) (at w p)) → j < p
+        go : (p < j) ⊎ ((p ≡ j) ⊎ (j < p)) → T (leads (at w p)) × T (member (freeAfter (able .all) w j) (at w p)) → j < p
         go (inl h) f =
-            absurd (T-not (placed w j (at w p)) (subst (λ (b : Bool). T b) (free-unplaced rows w (able .small) j (at w p) (able .vertices p l)) (f .1)) (placed-in w j (at w p) p h refl))
+            let unplaced = and-out (member (able .all) (at w p)) (not (placed w j (at w p))) (subst (λ (b : Bool). T b) (free-members (able .all) w j (at w p)) (f .1)) .1 in
+            absurd (T-not (placed w j (at w p)) unplaced (placed-in w j (at w p) p h refl))
         go (inr (inl same)) f =
             let both = and-out (arcs rows (at w i) (at w p)) (not (arcs rows (at w i) (at w j))) (f .0) in
             absurd (T-not (arcs rows (at w i) (at w j)) (both .1) (subst (λ (x : ℕ). T (arcs rows (at w i) (at w x))) same (both .0)))

@@ -6,8 +6,8 @@
 --   completesIn s labels front i mine c   c is one of `front`, and with b's label `mine` nothing excuses position i against c's
 --   behindIn s labels front i mine w j p  p is behind j, and the vertex there is such a c
 --   lastOf s labels front i mine w j k    the first such c: by position behind j, where there is none by number
---   Searchable s rows w k labels weights free j   the first k entries of w are vertices, j is one of these positions, free the vertices that are unplaced at
---                                 its turn, and the weights are those of the labels
+--   Searchable s rows w k labels weights free j   the first k entries of w are vertices, j is one of these positions, free those of a set of vertices that are
+--                                 unplaced at its turn, and the weights are those of the labels
 --   Positioned w k j i            w has k positions, j is one of them, and i is the number of a bit of a label
 use Prim.Native.Nat.{ℕ, _+_, _≤_, _<_}
 use mathlib.Core.Path.{_≡_}
@@ -21,7 +21,7 @@ use Rattle.searches.specs.Kind.{Search}
 use Rattle.searches.specs.Ordering.{arcs, at}
 use Rattle.searches.specs.Violation.{third, Verdict, fails}
 use Rattle.labels.specs.Words.{Weighed, unexcusedIn}
-use Rattle.steps.specs.Steps.{freeAfter}
+use Rattle.steps.specs.Steps.{Inside, freeAfter}
 
 unfoldable pub frontIn : List ℕ → ℕ → ℕ → ℕ → ℕ
 frontIn rows free a b = cond (arcs rows a b) 0 (common (getD rows a 0) free)
@@ -63,7 +63,9 @@ pub record Searchable (s : Search) (rows w : List ℕ) (k : ℕ) (labels weights
   pub fits : k ≤ length rows
   pub small : length rows ≤ 64
   pub vertices : (p : ℕ) → p < k → at w p < length rows
-  pub unplaced : free ≡ freeAfter (length rows) w j
+  pub all : ℕ
+  pub within : Inside (length rows) all
+  pub unplaced : free ≡ freeAfter all w j
   pub weighed : Weighed s labels weights
 
 pub record Positioned (w : List ℕ) (k j i : ℕ) : Type 0 where

@@ -9,16 +9,16 @@ use denote.Ref.{now}
 use lib.ListN.{drop}
 use native.Mathlib.Omega.{arith}
 use borrow.Author.Tests.{lt-ltb, le-ltb}
-use Rattle.searches.specs.Answer.{openTests, judgeTests, firstRefusal, number, refusalOf}
+use Rattle.searches.specs.Answer.{openTests, openTestsBarring, judgeTestsBarring, firstRefusal, number, refusalOf}
 use Rattle.checks.proofs.Tried.{Tried, tried-one, tried-first, refused-here, refused-before, accepted-here, rows-fit, entries-fit}
 use Rattle.checks.proofs.judge_refusal.Statement.{statement}
 use Rattle.checks.proofs.judge_refusal.Tie as tie
 
 abbrev first-tests : tie.After-open-refusal → List (ℕ × Bool)
-first-tests c = let entry = c .before .before .before in openTests (entry .args .kind .0) (entry .args .mark) (now (entry .args .rows))
+first-tests c = let entry = c .before .before .before in openTestsBarring (entry .args .kind .0) (entry .args .mark) (now (entry .args .rows)) (entry .args .barred)
 
 abbrev tests : tie.After-open-refusal → List (ℕ × Bool)
-tests c = let entry = c .before .before .before in judgeTests (entry .args .kind .0) (entry .args .mark) (now (entry .args .rows)) (now (entry .args .ordering))
+tests c = let entry = c .before .before .before in judgeTestsBarring (entry .args .kind .0) (entry .args .mark) (now (entry .args .rows)) (entry .args .barred) (now (entry .args .ordering))
 
 -- the first i tests do not hold
 abbrev Past : ℕ → tie.After-open-refusal → Type 0
@@ -28,21 +28,25 @@ opened : (c : tie.After-enum-told) → none ≡ firstRefusal (first-tests (c .be
 unfolding refusalOf
 opened c = sym (ap refusalOf (c .enum-told .given .1)) ∙ c .before .before .open-refusal .ensures
 
-past-5 : (c : tie.After-enum-told) → Past 5 (c .before .before)
-unfolding openTests judgeTests
-past-5 c = tried-first (first-tests (c .before .before)) _ (opened c)
+past-6 : (c : tie.After-enum-told) → Past 6 (c .before .before)
+unfolding openTests openTestsBarring judgeTestsBarring
+past-6 c = tried-first (first-tests (c .before .before)) _ (opened c)
 
-past-6 : (c : tie.Else1) → Past 6 (c .before .before .before)
-unfolding openTests judgeTests
-past-6 c = tried-one (past-5 (c .before)) (le-ltb _ _ (c .if1 .left))
+past-7 : (c : tie.Else1) → Past 7 (c .before .before .before)
+unfolding openTests openTestsBarring judgeTestsBarring
+past-7 c = tried-one (past-6 (c .before)) (le-ltb _ _ (c .if1 .left))
 
-past-7 : (c : tie.Else2) → Past 7 (c .before .before .before .before .before)
-unfolding openTests judgeTests
-past-7 c = tried-one (past-6 (c .before .before)) (sym (c .before .vertex-outside .ensures) ∙ c .if2 .left)
+past-8 : (c : tie.Else2) → Past 8 (c .before .before .before .before .before)
+unfolding openTests openTestsBarring judgeTestsBarring
+past-8 c = tried-one (past-7 (c .before .before)) (sym (c .before .vertex-outside .ensures) ∙ c .if2 .left)
 
-past-8 : (c : tie.Else3) → Past 8 (c .before .before .before .before .before .before .before)
-unfolding openTests judgeTests
-past-8 c = tried-one (past-7 (c .before .before)) (sym (c .before .repeated .ensures) ∙ c .if3 .left)
+past-9 : (c : tie.Else3) → Past 9 (c .before .before .before .before .before .before .before)
+unfolding openTests openTestsBarring judgeTestsBarring
+past-9 c = tried-one (past-8 (c .before .before)) (sym (c .before .repeated .ensures) ∙ c .if3 .left)
+
+past-10 : (c : tie.Else4) → Past 10 (c .before .before .before .before .before .before .before .before .before)
+unfolding openTests openTestsBarring judgeTestsBarring
+past-10 c = tried-one (past-9 (c .before .before)) (sym (c .before .vertex-barred .ensures) ∙ c .if4 .left)
 
 open-refusal-requires : tie.Need-open-refusal-requires
 open-refusal-requires c κs = tt
@@ -51,7 +55,7 @@ enum-known-opened : tie.Need-enum-known-opened
 enum-known-opened c = c .match .keys1
 
 returns : tie.Need-returns
-unfolding judgeTests refusalOf
+unfolding judgeTestsBarring refusalOf
 returns c =
     refused-before (first-tests (c .before .before .before)) _
     (sym (ap refusalOf (c .before .opened .given .1)) ∙ c .before .before .before .open-refusal .ensures)
@@ -60,27 +64,34 @@ enum-told : tie.Need-enum-told
 enum-told c = c .match .keys2
 
 returns-2 : tie.Need-returns-2
-unfolding openTests judgeTests number refusalOf
-returns-2 c = refused-here (past-5 (c .before)) (lt-ltb _ _ (c .if1 .taken))
+unfolding openTests openTestsBarring judgeTestsBarring number refusalOf
+returns-2 c = refused-here (past-6 (c .before)) (lt-ltb _ _ (c .if1 .taken))
 
 vertex-outside-requires : tie.Need-vertex-outside-requires
 vertex-outside-requires c κs = omega arith
 
 returns-3 : tie.Need-returns-3
-unfolding openTests judgeTests number refusalOf
-returns-3 c = refused-here (past-6 (c .before .before)) (sym (c .before .vertex-outside .ensures) ∙ c .if2 .taken)
+unfolding openTests openTestsBarring judgeTestsBarring number refusalOf
+returns-3 c = refused-here (past-7 (c .before .before)) (sym (c .before .vertex-outside .ensures) ∙ c .if2 .taken)
 
 repeated-requires : tie.Need-repeated-requires
 repeated-requires c κs =
-    (omega arith, entries-fit _ (rows-fit _ _ _ (opened (c .before .before .before))) (sym (c .before .vertex-outside .ensures) ∙ c .if2 .left))
+    (omega arith, entries-fit _ (rows-fit _ _ _ _ (opened (c .before .before .before))) (sym (c .before .vertex-outside .ensures) ∙ c .if2 .left))
 
 returns-4 : tie.Need-returns-4
-unfolding openTests judgeTests number refusalOf
-returns-4 c = refused-here (past-7 (c .before .before)) (sym (c .before .repeated .ensures) ∙ c .if3 .taken)
+unfolding openTests openTestsBarring judgeTestsBarring number refusalOf
+returns-4 c = refused-here (past-8 (c .before .before)) (sym (c .before .repeated .ensures) ∙ c .if3 .taken)
+
+vertex-barred-requires : tie.Need-vertex-barred-requires
+vertex-barred-requires c κs = omega arith
 
 returns-5 : tie.Need-returns-5
-unfolding openTests judgeTests number refusalOf
-returns-5 c = accepted-here (past-8 c)
+unfolding openTests openTestsBarring judgeTestsBarring number refusalOf
+returns-5 c = refused-here (past-9 (c .before .before)) (sym (c .before .vertex-barred .ensures) ∙ c .if4 .taken)
+
+returns-6 : tie.Need-returns-6
+unfolding openTests openTestsBarring judgeTestsBarring number refusalOf
+returns-6 c = accepted-here (past-10 c)
 
 pub judge-refusal-spec : {M : Type 1} → statement M
 judge-refusal-spec =
@@ -95,4 +106,6 @@ judge-refusal-spec =
     returns-3
     repeated-requires
     returns-4
-    returns-5)
+    vertex-barred-requires
+    returns-5
+    returns-6)

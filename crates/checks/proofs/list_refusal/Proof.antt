@@ -10,18 +10,18 @@ use denote.Ref.{now}
 use lib.ListN.{drop}
 use native.Mathlib.Omega.{arith}
 use borrow.Author.Tests.{lt-ltb, le-ltb, eq-eqb, ne-eqb}
-use Rattle.searches.specs.Answer.{openTests, listTests, firstRefusal, number, refusalOf}
+use Rattle.searches.specs.Answer.{openTests, openTestsBarring, listTestsBarring, firstRefusal, number, refusalOf}
 use Rattle.checks.proofs.Tried.{Tried, tried-one, tried-first, refused-here, refused-before, accepted-here, rows-fit, entries-fit}
 use Rattle.checks.proofs.list_refusal.Statement.{statement}
 use Rattle.checks.proofs.list_refusal.Tie as tie
 
 abbrev first-tests : tie.After-open-refusal → List (ℕ × Bool)
-first-tests c = let entry = c .before .before .before .before in openTests (entry .args .kind .0) (entry .args .mark) (now (entry .args .rows))
+first-tests c = let entry = c .before .before .before .before in openTestsBarring (entry .args .kind .0) (entry .args .mark) (now (entry .args .rows)) (entry .args .barred)
 
 abbrev tests : tie.After-open-refusal → List (ℕ × Bool)
 tests c =
     let entry = c .before .before .before .before in
-    listTests (entry .args .kind .0) (entry .args .mark) (now (entry .args .rows)) (now (entry .args .tie-break)) (now (entry .args .output)) (entry .args .k)
+    listTestsBarring (entry .args .kind .0) (entry .args .mark) (now (entry .args .rows)) (entry .args .barred) (now (entry .args .tie-break)) (now (entry .args .output)) (entry .args .k)
 
 -- the first i tests do not hold
 abbrev Past : ℕ → tie.After-open-refusal → Type 0
@@ -31,38 +31,42 @@ opened : (c : tie.After-enum-told) → none ≡ firstRefusal (first-tests (c .be
 unfolding refusalOf
 opened c = sym (ap refusalOf (c .enum-told .given .1)) ∙ c .before .before .open-refusal .ensures
 
-past-5 : (c : tie.After-enum-told) → Past 5 (c .before .before)
-unfolding openTests listTests
-past-5 c = tried-first (first-tests (c .before .before)) _ (opened c)
+past-6 : (c : tie.After-enum-told) → Past 6 (c .before .before)
+unfolding openTests openTestsBarring listTestsBarring
+past-6 c = tried-first (first-tests (c .before .before)) _ (opened c)
 
-past-6 : (c : tie.Else1) → Past 6 (c .before .before .before)
-unfolding openTests listTests
-past-6 c = tried-one (past-5 (c .before)) (le-ltb _ _ (c .if1 .left))
+past-7 : (c : tie.Else1) → Past 7 (c .before .before .before)
+unfolding openTests openTestsBarring listTestsBarring
+past-7 c = tried-one (past-6 (c .before)) (le-ltb _ _ (c .if1 .left))
 
-past-7 : (c : tie.Else2) → Past 7 (c .before .before .before .before)
-unfolding openTests listTests
-past-7 c = tried-one (past-6 (c .before)) (le-ltb _ _ (c .if2 .left))
+past-8 : (c : tie.Else2) → Past 8 (c .before .before .before .before)
+unfolding openTests openTestsBarring listTestsBarring
+past-8 c = tried-one (past-7 (c .before)) (le-ltb _ _ (c .if2 .left))
 
-past-8 : (c : tie.Else3) → Past 8 (c .before .before .before .before .before)
-unfolding openTests listTests
-past-8 c = tried-one (past-7 (c .before)) (ap not (eq-eqb _ _ (c .if3 .left)))
+past-9 : (c : tie.Else3) → Past 9 (c .before .before .before .before .before)
+unfolding openTests openTestsBarring listTestsBarring
+past-9 c = tried-one (past-8 (c .before)) (ap not (eq-eqb _ _ (c .if3 .left)))
 
 or-is : {a b x y : Bool} → a ≡ x → b ≡ y → (a || b) ≡ (x || y)
 or-is = ap₂ (λ (a b : Bool). a || b)
 
-past-9 : (c : tie.Else5) → Past 9 (c .before .before .before .before .before .before .before .before .before)
-unfolding openTests listTests
-past-9 c =
-    tried-one (past-8 (c .before .before .before .before))
+past-10 : (c : tie.Else5) → Past 10 (c .before .before .before .before .before .before .before .before .before)
+unfolding openTests openTestsBarring listTestsBarring
+past-10 c =
+    tried-one (past-9 (c .before .before .before .before))
     (or-is (sym (c .before .before .before .vertex-outside .ensures) ∙ c .before .before .if4 .left)
     (sym (c .before .vertex-outside2 .ensures) ∙ c .if5 .left))
 
-past-10 : (c : tie.Else7) → Past 10 (c .before .before .before .before .before .before .before .before .before .before .before .before .before)
-unfolding openTests listTests
-past-10 c =
-    tried-one (past-9 (c .before .before .before .before))
+past-11 : (c : tie.Else7) → Past 11 (c .before .before .before .before .before .before .before .before .before .before .before .before .before)
+unfolding openTests openTestsBarring listTestsBarring
+past-11 c =
+    tried-one (past-10 (c .before .before .before .before))
     (or-is (sym (c .before .before .before .repeated .ensures) ∙ c .before .before .if6 .left)
     (sym (c .before .repeated2 .ensures) ∙ c .if7 .left))
+
+past-12 : (c : tie.Else8) → Past 12 (c .before .before .before .before .before .before .before .before .before .before .before .before .before .before .before)
+unfolding openTests openTestsBarring listTestsBarring
+past-12 c = tried-one (past-11 (c .before .before)) (sym (c .before .vertex-barred .ensures) ∙ c .if8 .left)
 
 open-refusal-requires : tie.Need-open-refusal-requires
 open-refusal-requires c κs = tt
@@ -71,7 +75,7 @@ enum-known-opened : tie.Need-enum-known-opened
 enum-known-opened c = c .match .keys1
 
 returns : tie.Need-returns
-unfolding listTests refusalOf
+unfolding listTestsBarring refusalOf
 returns c =
     refused-before (first-tests (c .before .before .before)) _
     (sym (ap refusalOf (c .before .opened .given .1)) ∙ c .before .before .before .open-refusal .ensures)
@@ -80,16 +84,16 @@ enum-told : tie.Need-enum-told
 enum-told c = c .match .keys2
 
 returns-2 : tie.Need-returns-2
-unfolding openTests listTests number refusalOf
-returns-2 c = refused-here (past-5 (c .before)) (lt-ltb _ _ (c .if1 .taken))
+unfolding openTests openTestsBarring listTestsBarring number refusalOf
+returns-2 c = refused-here (past-6 (c .before)) (lt-ltb _ _ (c .if1 .taken))
 
 returns-3 : tie.Need-returns-3
-unfolding openTests listTests number refusalOf
-returns-3 c = refused-here (past-6 (c .before)) (lt-ltb _ _ (c .if2 .taken))
+unfolding openTests openTestsBarring listTestsBarring number refusalOf
+returns-3 c = refused-here (past-7 (c .before)) (lt-ltb _ _ (c .if2 .taken))
 
 returns-4 : tie.Need-returns-4
-unfolding openTests listTests number refusalOf
-returns-4 c = refused-here (past-7 (c .before)) (ap not (ne-eqb _ _ (c .if3 .taken)))
+unfolding openTests openTestsBarring listTestsBarring number refusalOf
+returns-4 c = refused-here (past-8 (c .before)) (ap not (ne-eqb _ _ (c .if3 .taken)))
 
 vertex-outside-requires : tie.Need-vertex-outside-requires
 vertex-outside-requires c κs = omega arith
@@ -98,9 +102,9 @@ vertex-outside-requires-2 : tie.Need-vertex-outside-requires-2
 vertex-outside-requires-2 c κs = omega arith
 
 returns-5 : tie.Need-returns-5
-unfolding openTests listTests number refusalOf
+unfolding openTests openTestsBarring listTestsBarring number refusalOf
 returns-5 c =
-    refused-here (past-8 (c .before .before))
+    refused-here (past-9 (c .before .before))
     (⊎-elim
     (λ w. rw (sym (c .before .vertex-outside .ensures) ∙ w .taken))
     (λ w. or-is (sym (c .before .vertex-outside .ensures) ∙ w .0 .left) (sym (w .1 .ensures) ∙ w .2 .taken))
@@ -109,29 +113,36 @@ returns-5 c =
 repeated-requires : tie.Need-repeated-requires
 repeated-requires c κs = (
   omega arith,
-  entries-fit _ (rows-fit _ _ _ (opened (c .before .before .before .before .before .before .before)))
+  entries-fit _ (rows-fit _ _ _ _ (opened (c .before .before .before .before .before .before .before)))
       (sym (c .before .before .before .vertex-outside .ensures) ∙ c .before .before .if4 .left),
 )
 
 repeated-requires-2 : tie.Need-repeated-requires-2
 repeated-requires-2 c κs = (
   omega arith,
-  entries-fit _ (rows-fit _ _ _ (opened (c .before .before .before .before .before .before .before .before .before)))
+  entries-fit _ (rows-fit _ _ _ _ (opened (c .before .before .before .before .before .before .before .before .before)))
       (sym (c .before .before .before .vertex-outside2 .ensures) ∙ c .before .before .if5 .left),
 )
 
 returns-6 : tie.Need-returns-6
-unfolding openTests listTests number refusalOf
+unfolding openTests openTestsBarring listTestsBarring number refusalOf
 returns-6 c =
-    refused-here (past-9 (c .before .before))
+    refused-here (past-10 (c .before .before))
     (⊎-elim
     (λ w. rw (sym (c .before .repeated .ensures) ∙ w .taken))
     (λ w. or-is (sym (c .before .repeated .ensures) ∙ w .0 .left) (sym (w .1 .ensures) ∙ w .2 .taken))
     (c .if6 .came))
 
+vertex-barred-requires : tie.Need-vertex-barred-requires
+vertex-barred-requires c κs = omega arith
+
 returns-7 : tie.Need-returns-7
-unfolding openTests listTests number refusalOf
-returns-7 c = accepted-here (past-10 c)
+unfolding openTests openTestsBarring listTestsBarring number refusalOf
+returns-7 c = refused-here (past-11 (c .before .before)) (sym (c .before .vertex-barred .ensures) ∙ c .if8 .taken)
+
+returns-8 : tie.Need-returns-8
+unfolding openTests openTestsBarring listTestsBarring number refusalOf
+returns-8 c = accepted-here (past-12 c)
 
 pub list-refusal-spec : {M : Type 1} → statement M
 list-refusal-spec =
@@ -150,4 +161,6 @@ list-refusal-spec =
     repeated-requires
     repeated-requires-2
     returns-6
-    returns-7)
+    vertex-barred-requires
+    returns-7
+    returns-8)

@@ -6,7 +6,7 @@ use mathlib.Core.List.{List}
 use mathlib.Core.Option.{none}
 use denote.Ref.{now}
 use lib.ListN.{length, take}
-use Rattle.searches.specs.Answer.{openTests, listTests, firstRefusal, Accepts, refusalOf}
+use Rattle.searches.specs.Answer.{openTests, listTestsBarring, firstRefusal, Accepts, refusalOf}
 use Rattle.bitset.specs.Matrix.{Within}
 use Rattle.lookup.specs.Columns.{Transposed}
 use Rattle.lookup.proofs.Transposition.{first-columns, columns-within}
@@ -29,7 +29,7 @@ returns : tie.Need-returns
 unfolding refusalOf
 returns c =
     let a = c .before .before .before .before .before .before .before .before .args in
-    carryOn-asked-refused (a .kind .0) (a .mark) (now (a .rows)) (now (a .tie-break)) (now (a .output)) (a .k) _
+    carryOn-asked-refused (a .kind .0) (a .mark) (now (a .rows)) (a .barred) (now (a .tie-break)) (now (a .output)) (a .k) _
     (sym (ap refusalOf (c .before .checked .given .1)) ∙ c .before .before .before .list-refusal .ensures)
 
 enum-told : tie.Need-enum-told
@@ -37,7 +37,7 @@ enum-told c = c .match .keys2
 
 accepted : (c : tie.After-enum-told)
     → let a = c .before .before .before .before .before .before .before .args in
-    none ≡ firstRefusal (listTests (a .kind .0) (a .mark) (now (a .rows)) (now (a .tie-break)) (now (a .output)) (a .k))
+    none ≡ firstRefusal (listTestsBarring (a .kind .0) (a .mark) (now (a .rows)) (a .barred) (now (a .tie-break)) (now (a .output)) (a .k))
 unfolding refusalOf
 accepted c = sym (ap refusalOf (c .enum-told .given .1)) ∙ c .before .before .list-refusal .ensures
 
@@ -47,15 +47,15 @@ valid : (c : tie.After-enum-told)
     Accepts (openTests (a .kind .0) (a .mark) (now (a .rows)))
 valid c =
     let a = c .before .before .before .before .before .before .before .args in
-    carryOn-asked-valid (a .kind .0) (a .mark) (now (a .rows)) (now (a .tie-break)) (now (a .output)) (a .k) (accepted c)
+    carryOn-asked-valid (a .kind .0) (a .mark) (now (a .rows)) (a .barred) (now (a .tie-break)) (now (a .output)) (a .k) (accepted c)
 
 -- what is extended, on the rows and any columns of theirs
 extendable : (c : tie.After-enum-told)
     → let a = c .before .before .before .before .before .before .before .args in
-    (columns : List ℕ) → Transposed (now (a .rows)) columns → Extendable (now (a .rows)) columns (now (a .tie-break)) (now (a .output)) (a .k)
+    (columns : List ℕ) → Transposed (now (a .rows)) columns → Extendable (now (a .rows)) columns (a .barred) (now (a .tie-break)) (now (a .output)) (a .k)
 extendable c columns transpose =
     let a = c .before .before .before .before .before .before .before .args in
-    carryOn-asked-accepted (a .kind .0) (a .mark) (now (a .rows)) (now (a .tie-break)) (now (a .output)) (a .k) (accepted c) transpose
+    carryOn-asked-accepted (a .kind .0) (a .mark) (now (a .rows)) (a .barred) (now (a .tie-break)) (now (a .output)) (a .k) (accepted c) transpose
 
 enum-told-2 : tie.Need-enum-told-2
 enum-told-2 c = c .match2 .keys1
@@ -75,7 +75,7 @@ returns-2 : tie.Need-returns-2
 returns-2 c =
     let told = c .before .before .before .before .before .before in
     let a = told .before .before .before .before .before .before .before .args in
-    let last = carryOn-asked-last (a .kind .0) (a .mark) (now (a .rows)) (now (a .tie-break)) (now (a .output)) (a .k) (accepted told) in
+    let last = carryOn-asked-last (a .kind .0) (a .mark) (now (a .rows)) (a .barred) (now (a .tie-break)) (now (a .output)) (a .k) (accepted told) in
     (c .before .before .extend .ensures .0 ∙ last .0, c .before .before .extend .ensures .1 ∙ last .1)
 
 enum-told-3 : tie.Need-enum-told-3
@@ -113,7 +113,7 @@ returns-3 : tie.Need-returns-3
 returns-3 c =
     let told = c .before .before .before .before .before .before .before .before .before in
     let a = told .before .before .before .before .before .before .before .args in
-    let last = carryOn-asked-last (a .kind .0) (a .mark) (now (a .rows)) (now (a .tie-break)) (now (a .output)) (a .k) (accepted told) in
+    let last = carryOn-asked-last (a .kind .0) (a .mark) (now (a .rows)) (a .barred) (now (a .tie-break)) (now (a .output)) (a .k) (accepted told) in
     (c .before .before .extend2 .ensures .0 ∙ last .0, c .before .before .extend2 .ensures .1 ∙ last .1)
 
 pub carry-on-spec : {M : Type 1} → statement M

@@ -8,20 +8,20 @@ use Prim.Native.Nat.{ℕ, _-_}
 use denote.Ref.{now}
 use native.Mathlib.Omega.{arith}
 use lib.ListN.{length, drop, length-take, length-drop}
+use Rattle.bitset.specs.Below.{countBelow}
 use Rattle.searches.specs.Kind.{searchOf}
 use Rattle.searches.specs.Ordering.{arcs}
-use Rattle.searches.specs.Violation.{judge}
-use Rattle.searches.specs.CarryOn.{carryOn}
-use Rattle.searches.specs.Answer.{isPass, refusalOf, number}
-use Rattle.searches.proofs.Ordering.{ordering-fits}
+use Rattle.searches.specs.Without.{judgeWithout, carryOnWithout}
+use Rattle.searches.specs.Answer.{unbarred, isPass, refusalOf, number}
+use Rattle.bitset.proofs.Count.{count-le}
 use Rattle.steps.specs.Steps.{Staged}
-use Rattle.engine.proofs.Calls.{replayable, stopped-fails, ended-passes, whole-ended, along-ended, filled-carried}
+use Rattle.engine.proofs.Calls.{replayable, stopped-fails, ended-passes, whole-ended, along-ended, left-ended, filled-carried}
 use borrow.Author.Needs.{needs}
 use Rattle.engine.proofs.extend.Statement.{statement}
 use Rattle.engine.proofs.extend.Tie as tie
 
 replay-requires : tie.Need-replay-requires
-replay-requires c κs = let s = c .before .before .before .before .before .before .before .before .before in replayable (now (s .args .rows)) (now (s .args .output)) (s .args .k) (s .pre .start)
+replay-requires c κs = let s = c .before .before .before .before .before .before .before .before .before in replayable (now (s .args .rows)) (s .args .barred) (now (s .args .output)) (s .args .k) (s .pre .start)
 
 same-length : tie.Need-same-length
 same-length c = search needs
@@ -34,11 +34,11 @@ returns c =
     let a = s .args in
     let k = searchOf (a .kind .0) in
     let r = placed .replay in
-    let e = stopped-fails (now (a .rows)) (now (a .output)) (a .k) (s .pre .start) k (r .result .count) (r .ensures .0) (r .last .1 .1 .1 .1 .1 .0)
+    let e = stopped-fails (now (a .rows)) (a .barred) (now (a .output)) (a .k) (s .pre .start) k (r .result .count) (r .ensures .0) (r .last .1 .1 .1 .1 .1 .1 .0)
     (r .result .stage .free) (c .if1 .taken) (r .ensures .1 .1 .1 .0) (r .ensures .1 .1 .0)
     in (
       sym (ap (λ (x : Bool). cond {A = Option ℕ} x none (some 12)) e),
-      sym (ap (λ (x : Bool). cond x (carryOn k (arcs (now (a .rows))) (length (now (a .rows))) (now (a .tie-break)) (now (a .output)) (a .k) ++ drop (length (now (a .rows))) (now (a .output))) (now (a .output))) e),
+      sym (ap (λ (x : Bool). cond x (carryOnWithout k (arcs (now (a .rows))) (length (now (a .rows))) (unbarred (a .barred)) (now (a .tie-break)) (now (a .output)) (a .k) ++ drop (countBelow (length (now (a .rows))) (unbarred (a .barred))) (now (a .output))) (now (a .output))) e),
     )
 
 sub-fill : tie.Need-sub-fill
@@ -57,19 +57,26 @@ fill-requires c κs =
     let a = s .args in
     let room = s .pre .room in
     let r = placed .replay in
-    let fits = ordering-fits (length (now (a .rows))) (s .pre .start .ordering) in
     record {
-      fits = fits;
       small = s .pre .start .small;
       transpose = s .pre .start .transpose;
       names = s .pre .names;
       along =
-          along-ended (now (a .rows)) (now (a .output)) (a .k) (s .pre .start) (searchOf (a .kind .0)) (r .result .count) (r .ensures .0) (c .before .before .before .before .before .if1 .left)
+          along-ended (now (a .rows)) (a .barred) (now (a .output)) (a .k) (s .pre .start) (searchOf (a .kind .0)) (r .result .count) (r .ensures .0) (c .before .before .before .before .before .if1 .left)
           (r .ensures .1 .1 .1 .0) (r .ensures .1 .1 .1 .1 .0) (r .ensures .1 .1 .1 .1 .1 .0) (r .ensures .1 .0) (r .ensures .1 .1 .0);
-      room = omega (arith, room, fits, length-take (length (now (a .output)) - a .k) (drop (a .k) (now (a .output))), length-drop (a .k) (now (a .output)));
+      room =
+          omega (
+            arith,
+            room,
+            length-take (length (now (a .output)) - a .k) (drop (a .k) (now (a .output))),
+            length-drop (a .k) (now (a .output)),
+            count-le (length (now (a .rows))) (unbarred (a .barred)),
+            left-ended (now (a .rows)) (a .barred) (now (a .output)) (a .k) (s .pre .start) (searchOf (a .kind .0)) (r .result .count) (r .ensures .0)
+                (c .before .before .before .before .before .if1 .left) (r .ensures .1 .1 .0),
+          );
       staged =
-          subst (Staged (searchOf (a .kind .0)) (r .last .1 .1 .1 .1 .1 .0) (r .last .1 .1 .1 .1 .1 .1 .1 .1 .0) (r .result .stage))
-          (whole-ended (now (a .rows)) (now (a .output)) (a .k) (s .pre .start) (searchOf (a .kind .0)) (r .result .count) (r .ensures .0) (c .before .before .before .before .before .if1 .left))
+          subst (Staged (searchOf (a .kind .0)) (r .last .1 .1 .1 .1 .1 .1 .0) (r .last .1 .1 .1 .1 .1 .1 .1 .1 .1 .0) (r .result .stage))
+          (whole-ended (now (a .rows)) (a .barred) (now (a .output)) (a .k) (s .pre .start) (searchOf (a .kind .0)) (r .result .count) (r .ensures .0) (c .before .before .before .before .before .if1 .left))
           (r .ensures .1 .1 .1 .1 .1 .1);
     }
 
@@ -86,12 +93,12 @@ returns-2 c =
     let k = searchOf (a .kind .0) in
     let r = placed .replay in
     let ended = filled .before .before .before .before .before .before .if1 .left in
-    let p = ended-passes (now (a .rows)) (now (a .output)) (a .k) (s .pre .start) k (r .result .count) (r .ensures .0) ended in
-    let e : isPass (judge k (arcs (now (a .rows))) (length (now (a .rows))) (now (a .output)) (a .k)) ≡ true = ap isPass p in (
+    let p = ended-passes (now (a .rows)) (a .barred) (now (a .output)) (a .k) (s .pre .start) k (r .result .count) (r .ensures .0) ended in
+    let e : isPass (judgeWithout k (arcs (now (a .rows))) (length (now (a .rows))) (unbarred (a .barred)) (now (a .output)) (a .k)) ≡ true = ap isPass p in (
       sym (ap (λ (x : Bool). cond {A = Option ℕ} x none (some 12)) e),
-      filled-carried k (now (a .rows)) (now (a .tie-break)) (now (a .output)) (a .k) (s .pre) (r .result .count) (r .result .stage .free) (r .last .1 .1 .1 .1 .1 .0)
+      filled-carried k (now (a .rows)) (a .barred) (now (a .tie-break)) (now (a .output)) (a .k) (s .pre) (r .result .count) (r .result .stage .free) (r .last .1 .1 .1 .1 .1 .1 .0)
           (filled .fill .last .1 .1 .1 .1 .0) (r .ensures .0) ended (r .ensures .1 .1 .1 .0) (r .ensures .1 .1 .0) (filled .fill .ensures)
-          ∙ sym (ap (λ (x : Bool). cond x (carryOn k (arcs (now (a .rows))) (length (now (a .rows))) (now (a .tie-break)) (now (a .output)) (a .k) ++ drop (length (now (a .rows))) (now (a .output))) (now (a .output))) e),
+          ∙ sym (ap (λ (x : Bool). cond x (carryOnWithout k (arcs (now (a .rows))) (length (now (a .rows))) (unbarred (a .barred)) (now (a .tie-break)) (now (a .output)) (a .k) ++ drop (countBelow (length (now (a .rows))) (unbarred (a .barred))) (now (a .output))) (now (a .output))) e),
     )
 
 pub extend-spec : {M : Type 1} → statement M

@@ -8,8 +8,8 @@ use denote.Ref.{now}
 use lib.ListN.{length, take}
 use Rattle.searches.specs.Kind.{searchOf}
 use Rattle.searches.specs.Ordering.{arcs}
-use Rattle.searches.specs.Violation.{judge as judgeOf}
-use Rattle.searches.specs.Answer.{openTests, judgeTests, firstRefusal, Accepts, judgeAnswer, verdictOf, refusalOf}
+use Rattle.searches.specs.Without.{judgeWithout}
+use Rattle.searches.specs.Answer.{openTests, firstRefusal, Accepts, unbarred, judgeTestsBarring, judgeBarring, verdictOf, refusalOf}
 use Rattle.bitset.specs.Matrix.{Within}
 use Rattle.lookup.specs.Columns.{Transposed}
 use Rattle.lookup.proofs.Transposition.{first-columns, columns-within}
@@ -28,7 +28,7 @@ returns : tie.Need-returns
 unfolding verdictOf refusalOf
 returns c =
     let a = c .before .before .before .before .before .before .args in
-    judge-asked-refused (a .kind .0) (a .mark) (now (a .rows)) (now (a .ordering)) _
+    judge-asked-refused (a .kind .0) (a .mark) (now (a .rows)) (a .barred) (now (a .ordering)) _
     (sym (ap refusalOf (c .before .checked .given .1)) ∙ c .before .before .before .judge-refusal .ensures)
 
 enum-told : tie.Need-enum-told
@@ -36,24 +36,24 @@ enum-told c = c .match .keys2
 
 accepted : (c : tie.After-enum-told)
     → let a = c .before .before .before .before .before .args in
-    none ≡ firstRefusal (judgeTests (a .kind .0) (a .mark) (now (a .rows)) (now (a .ordering)))
+    none ≡ firstRefusal (judgeTestsBarring (a .kind .0) (a .mark) (now (a .rows)) (a .barred) (now (a .ordering)))
 unfolding refusalOf
 accepted c = sym (ap refusalOf (c .enum-told .given .1)) ∙ c .before .before .judge-refusal .ensures
 
 -- the graph is valid
 valid : (c : tie.After-enum-told) → let a = c .before .before .before .before .before .args in Accepts (openTests (a .kind .0) (a .mark) (now (a .rows)))
-valid c = let a = c .before .before .before .before .before .args in judge-asked-valid (a .kind .0) (a .mark) (now (a .rows)) (now (a .ordering)) (accepted c)
+valid c = let a = c .before .before .before .before .before .args in judge-asked-valid (a .kind .0) (a .mark) (now (a .rows)) (a .barred) (now (a .ordering)) (accepted c)
 
 -- what is judged, on the rows and any columns of theirs
 judgeable : (c : tie.After-enum-told)
     → let a = c .before .before .before .before .before .args in
     (columns : List ℕ) → Transposed (now (a .rows)) columns
-    → Judgeable (now (a .rows)) columns (now (a .ordering)) (length (now (a .ordering)))
-    × (judgeOf (searchOf (a .kind .0)) (arcs (now (a .rows))) (length (now (a .rows))) (now (a .ordering)) (length (now (a .ordering)))
-    ≡ judgeAnswer (a .kind .0) (a .mark) (now (a .rows)) (now (a .ordering)))
+    → Judgeable (now (a .rows)) columns (a .barred) (now (a .ordering)) (length (now (a .ordering)))
+    × (judgeWithout (searchOf (a .kind .0)) (arcs (now (a .rows))) (length (now (a .rows))) (unbarred (a .barred)) (now (a .ordering)) (length (now (a .ordering)))
+    ≡ judgeBarring (a .kind .0) (a .mark) (now (a .rows)) (a .barred) (now (a .ordering)))
 judgeable c columns transpose =
     let a = c .before .before .before .before .before .args in
-    judge-asked-accepted (a .kind .0) (a .mark) (now (a .rows)) (now (a .ordering)) (accepted c) transpose
+    judge-asked-accepted (a .kind .0) (a .mark) (now (a .rows)) (a .barred) (now (a .ordering)) (accepted c) transpose
 
 enum-told-2 : tie.Need-enum-told-2
 enum-told-2 c = c .match2 .keys1

@@ -11,7 +11,7 @@ use Rattle.engine.proofs.verdict.Statement.{statement}
 use Rattle.engine.proofs.verdict.Tie as tie
 
 replay-requires : tie.Need-replay-requires
-replay-requires c κs = let s = c .before .before .before .before .before .before .before in replayable (now (s .args .rows)) (now (s .args .ordering)) (length (now (s .args .ordering))) (s .pre)
+replay-requires c κs = let s = c .before .before .before .before .before .before .before in replayable (now (s .args .rows)) (s .args .barred) (now (s .args .ordering)) (length (now (s .args .ordering))) (s .pre)
 
 first-violation-requires : tie.Need-first-violation-requires
 first-violation-requires c κs =
@@ -20,7 +20,7 @@ first-violation-requires c κs =
     let s = placed .before .before .before .before .before .before .before .before in
     let a = s .args in
     let r = placed .replay in
-    fault-there (now (a .rows)) (now (a .ordering)) (length (now (a .ordering))) (s .pre) (searchOf (a .kind .0)) (r .result .count) (r .ensures .0) (r .last .1 .1 .1 .1 .1 .0)
+    fault-there (now (a .rows)) (a .barred) (now (a .ordering)) (length (now (a .ordering))) (s .pre) (searchOf (a .kind .0)) (r .result .count) (r .ensures .0) (r .last .1 .1 .1 .1 .1 .1 .0)
     (r .result .stage .free) (stopped .if1 .taken) (r .ensures .1 .1 .1 .0) (r .ensures .1 .1 .0) (r .ensures .1 .1 .1 .1 .1 .1 .weighed)
 
 returns : tie.Need-returns
@@ -31,8 +31,8 @@ returns c =
     let a = s .args in
     let r = placed .replay in
     c .first-violation .ensures
-    ∙ fault-judged (now (a .rows)) (now (a .ordering)) (length (now (a .ordering))) (s .pre) (searchOf (a .kind .0)) (r .result .count) (r .ensures .0)
-    (r .last .1 .1 .1 .1 .1 .0) (r .result .stage .free) (stopped .if1 .taken) (r .ensures .1 .1 .1 .0) (r .ensures .1 .1 .0)
+    ∙ fault-judged (now (a .rows)) (a .barred) (now (a .ordering)) (length (now (a .ordering))) (s .pre) (searchOf (a .kind .0)) (r .result .count) (r .ensures .0)
+    (r .last .1 .1 .1 .1 .1 .1 .0) (r .result .stage .free) (stopped .if1 .taken) (r .ensures .1 .1 .1 .0) (r .ensures .1 .1 .0)
 
 returns-2 : tie.Need-returns-2
 unfolding verdictOf
@@ -41,7 +41,7 @@ returns-2 c =
     let s = placed .before .before .before .before .before .before .before .before in
     let a = s .args in
     let r = placed .replay in
-    sym (ended-passes (now (a .rows)) (now (a .ordering)) (length (now (a .ordering))) (s .pre) (searchOf (a .kind .0)) (r .result .count) (r .ensures .0) (omega arith))
+    sym (ended-passes (now (a .rows)) (a .barred) (now (a .ordering)) (length (now (a .ordering))) (s .pre) (searchOf (a .kind .0)) (r .result .count) (r .ensures .0) (omega arith))
 
 pub verdict-spec : {M : Type 1} → statement M
 verdict-spec = tie.close (tie.spec replay-requires first-violation-requires returns returns-2)

@@ -5,7 +5,7 @@ use mathlib.Core.Option.{none}
 use denote.Ref.{now}
 use lib.ListN.{length, take}
 use borrow.Author.Needs.{needs}
-use Rattle.searches.specs.Answer.{openTests, judgeTests, firstRefusal, Accepts, refusalOf}
+use Rattle.searches.specs.Answer.{openTests, judgeTestsBarring, firstRefusal, Accepts, refusalOf}
 use Rattle.lookup.specs.Columns.{Transposed}
 use Rattle.lookup.proofs.Transposition.{columns-within}
 use Rattle.searches.proofs.Marks.{valid-both-ways}
@@ -27,7 +27,7 @@ unfolding refusalOf
 returns c =
     let told = c .before in
     let a = told .before .before .before .before .before .args in
-    moment-refused (a .kind .0) (a .mark) (now (a .rows)) (now (a .ordering)) (c .no-moment .ensures) _
+    moment-refused (a .kind .0) (a .mark) (now (a .rows)) (a .barred) (now (a .ordering)) (c .no-moment .ensures) _
     (sym (ap refusalOf (told .enum-told .given .1)) ∙ told .before .before .judge-refusal .ensures)
 
 enum-told-2 : tie.Need-enum-told-2
@@ -35,13 +35,13 @@ enum-told-2 c = search needs
 
 accepted : (c : tie.After-enum-told2)
     → let a = c .before .before .before .before .before .args in
-    none ≡ firstRefusal (judgeTests (a .kind .0) (a .mark) (now (a .rows)) (now (a .ordering)))
+    none ≡ firstRefusal (judgeTestsBarring (a .kind .0) (a .mark) (now (a .rows)) (a .barred) (now (a .ordering)))
 unfolding refusalOf
 accepted c = sym (ap refusalOf (c .enum-told2 .given .1)) ∙ c .before .before .judge-refusal .ensures
 
 -- the graph is valid
 valid : (c : tie.After-enum-told2) → let a = c .before .before .before .before .before .args in Accepts (openTests (a .kind .0) (a .mark) (now (a .rows)))
-valid c = let a = c .before .before .before .before .before .args in judge-asked-valid (a .kind .0) (a .mark) (now (a .rows)) (now (a .ordering)) (accepted c)
+valid c = let a = c .before .before .before .before .before .args in judge-asked-valid (a .kind .0) (a .mark) (now (a .rows)) (a .barred) (now (a .ordering)) (accepted c)
 
 columns-of-requires : tie.Need-columns-of-requires
 columns-of-requires c κs =
@@ -66,8 +66,8 @@ replay-requires c κs =
     let made = c .before .before .before .before .before in
     let told = made .before .before in
     let a = told .before .before .before .before .before .args in
-    replayable (now (a .rows)) (now (a .ordering)) (length (now (a .ordering)))
-    (judge-asked-accepted (a .kind .0) (a .mark) (now (a .rows)) (now (a .ordering)) (accepted told) (columns-there made) .0)
+    replayable (now (a .rows)) (a .barred) (now (a .ordering)) (length (now (a .ordering)))
+    (judge-asked-accepted (a .kind .0) (a .mark) (now (a .rows)) (a .barred) (now (a .ordering)) (accepted told) (columns-there made) .0)
 
 no-moment-requires-2 : tie.Need-no-moment-requires-2
 no-moment-requires-2 c κs = search needs
@@ -78,7 +78,7 @@ returns-2 c =
     let made = r .before .before .before .before .before .before in
     let told = made .before .before in
     let a = told .before .before .before .before .before .args in
-    moment-stopped (a .kind .0) (a .mark) (now (a .rows)) (now (a .ordering)) (accepted told) (columns-there made) (r .replay .result .count) (r .replay .ensures .0) (c .no-moment2 .ensures) (c .before .if1 .taken)
+    moment-stopped (a .kind .0) (a .mark) (now (a .rows)) (a .barred) (now (a .ordering)) (accepted told) (columns-there made) (r .replay .result .count) (r .replay .ensures .0) (c .no-moment2 .ensures) (c .before .if1 .taken)
 
 returns-3 : tie.Need-returns-3
 returns-3 c =
@@ -87,7 +87,7 @@ returns-3 c =
     let told = made .before .before in
     let a = told .before .before .before .before .before .args in
     let e = r .replay .ensures in
-    moment-ended (a .kind .0) (a .mark) (now (a .rows)) (now (a .ordering)) (accepted told) (columns-there made) (r .replay .result .count) (e .0) (c .if1 .left) (e .1 .1 .0) (e .1 .1 .1 .0)
+    moment-ended (a .kind .0) (a .mark) (now (a .rows)) (a .barred) (now (a .ordering)) (accepted told) (columns-there made) (r .replay .result .count) (e .0) (c .if1 .left) (e .1 .1 .0) (e .1 .1 .1 .0)
     (e .1 .1 .1 .1 .1 .1 .weighed)
 
 pub after-spec : {M : Type 1} → statement M

@@ -8,30 +8,39 @@ use lib.ListN.{length}
 use denote.Ref.{now}
 use native.Mathlib.Omega.{arith}
 use borrow.Author.Needs.{needs}
+use Rattle.bitset.specs.Word.{difference}
 use Rattle.bitset.proofs.Tests.{said-true, said-false, not-true, not-false}
 use Rattle.searches.specs.Kind.{searchOf}
-use Rattle.steps.specs.Steps.{labelsAfter, smallestAfter, largestAfter, placedAfter, freeAfter, stopsAt, Staged}
+use Rattle.steps.specs.Steps.{whole, labelsAfter, smallestAfter, largestAfter, placedAfter, freeAfter, stopsAt, Staged}
+use Rattle.steps.proofs.Representation.{whole-inside, whole-word}
 use Rattle.steps.proofs.Replaying.{Replaying, asked, replay-start, replay-placeable, replay-next, replay-stop, replay-end}
 use Rattle.steps.proofs.replay.replay.Statement.{statement}
 use Rattle.steps.proofs.replay.replay.Tie as tie
 
 abbrev Inv-loop : tie.InvT-loop
-Inv-loop kind rows columns ordering k labels₀ smallest₀ largest₀ weights₀ all stage₀ j₀ labels smallest largest weights stage j =
-    Replaying (searchOf (kind .0)) rows ordering k labels smallest largest weights stage j
+Inv-loop kind rows columns barred ordering k labels₀ smallest₀ largest₀ weights₀ all stage₀ j₀ labels smallest largest weights stage j =
+    Replaying (searchOf (kind .0)) rows (whole (length rows) barred) ordering k labels smallest largest weights stage j
 
 abbrev μ-loop : tie.MeasureT-loop
-μ-loop kind rows columns ordering k labels₀ smallest₀ largest₀ weights₀ all stage₀ j₀ labels smallest largest weights stage j = k - j
+μ-loop kind rows columns barred ordering k labels₀ smallest₀ largest₀ weights₀ all stage₀ j₀ labels smallest largest weights stage j = k - j
 
 full-below-requires : tie.Need-full-below-requires Inv-loop μ-loop
 full-below-requires c κs = search needs
 
+without-requires : tie.Need-without-requires Inv-loop μ-loop
+without-requires c κs = tt
+
 loop-holds : tie.Need-loop-holds Inv-loop μ-loop
+unfolding whole
 loop-holds c =
-    let s = c .before .before .before .before in
-    replay-start (searchOf (s .args .kind .0)) (s .args .rows .now) (s .args .ordering .now) (s .args .k) (s .pre) (c .full-below .ensures)
+    let s = c .before .before .before .before .before in
+    let a = s .args in
+    let n = length (a .rows .now) in
+    replay-start (searchOf (a .kind .0)) (a .rows .now) (whole n (a .barred)) (a .ordering .now) (a .k) (whole-inside (s .pre .small) (a .barred)) (s .pre) (whole-word n (a .barred))
+    (c .without .ensures ∙ ap (λ (x : ℕ). difference x (a .barred)) (c .before .full-below .ensures))
 
 vertex-at-requires : tie.Need-vertex-at-requires Inv-loop μ-loop
-vertex-at-requires c κs = let s = c .before .before .before .before .before .before in omega (arith, s .pre .long, c .loop-test .taken)
+vertex-at-requires c κs = let s = c .before .before .before .before .before .before .before in omega (arith, s .pre .long, c .loop-test .taken)
 
 is-open-requires : tie.Need-is-open-requires Inv-loop μ-loop
 is-open-requires c κs =
@@ -41,27 +50,28 @@ is-open-requires c κs =
 -- whether the vertex is offered
 answered : (c : tie.After-is-open Inv-loop μ-loop)
     → let l = c .before .before .before .before .before in
-    let a = l .before .before .before .before .before .args in
-    c .is-open .result ≡ not (stopsAt (searchOf (a .kind .0)) (now (a .rows)) (now (a .ordering)) (l .loop .j))
+    let a = l .before .before .before .before .before .before .args in
+    c .is-open .result ≡ not (stopsAt (searchOf (a .kind .0)) (now (a .rows)) (whole (length (now (a .rows))) (a .barred)) (now (a .ordering)) (l .loop .j))
 answered c =
     let v = c .before .before .before in
     let l = v .before .before in
-    let s = l .before .before .before .before .before in
+    let s = l .before .before .before .before .before .before in
     let a = s .args in
-    asked (searchOf (a .kind .0)) (now (a .rows)) (now (a .ordering)) (a .k) (s .pre) (l .loop .inv) (v .before .loop-test .taken) (v .vertex-at .ensures) (c .is-open .ensures)
+    asked (searchOf (a .kind .0)) (now (a .rows)) (whole (length (now (a .rows))) (a .barred)) (now (a .ordering)) (a .k) (whole-inside (s .pre .small) (a .barred)) (s .pre) (l .loop .inv) (v .before .loop-test .taken) (v .vertex-at .ensures) (c .is-open .ensures)
 
 returns : tie.Need-returns Inv-loop μ-loop
 returns c =
     let told = c .before in
     let v = told .before .before .before in
     let l = v .before .before in
-    let s = l .before .before .before .before .before in
+    let s = l .before .before .before .before .before .before in
     let k = searchOf (s .args .kind .0) in
     let w = now (s .args .ordering) in
     let r = now (s .args .rows) in
+    let all = whole (length r) (s .args .barred) in
     let i = l .loop .inv in
-    let closed = said-false (not (stopsAt k r w (l .loop .j))) (answered told) (not-true (told .is-open .result) (c .if1 .taken)) in (
-      replay-stop k r w (s .args .k) i (v .before .loop-test .taken) (stops (stopsAt k r w (l .loop .j)) closed),
+    let closed = said-false (not (stopsAt k r all w (l .loop .j))) (answered told) (not-true (told .is-open .result) (c .if1 .taken)) in (
+      replay-stop k r all w (s .args .k) i (v .before .loop-test .taken) (stops (stopsAt k r all w (l .loop .j)) closed),
       (i .set, (i .unplaced, (i .labelled, (i .smallest-after, (i .largest-after, i .staged))))),
     )
   where
@@ -73,14 +83,14 @@ place-requires : tie.Need-place-requires Inv-loop μ-loop
 place-requires c κs =
     let v = c .before .before .before .before .before .before .before .before in
     let l = v .before .before in
-    let s = l .before .before .before .before .before in
+    let s = l .before .before .before .before .before .before in
     let a = s .args in
-    replay-placeable (searchOf (a .kind .0)) (now (a .rows)) (now (a .ordering)) (a .k) (s .pre) (l .loop .inv) (v .before .loop-test .taken) (v .vertex-at .ensures)
+    replay-placeable (searchOf (a .kind .0)) (now (a .rows)) (whole (length (now (a .rows))) (a .barred)) (now (a .ordering)) (a .k) (whole-inside (s .pre .small) (a .barred)) (s .pre) (l .loop .inv) (v .before .loop-test .taken) (v .vertex-at .ensures)
 
 add-j : tie.Need-add-j Inv-loop μ-loop
 add-j c =
     let v = c .before .before .before .before .before .before .before .before .before in
-    let s = v .before .before .before .before .before .before .before in
+    let s = v .before .before .before .before .before .before .before .before in
     omega (arith, v .before .loop-test .taken, s .fits .k .fits)
 
 loop-less : tie.Need-loop-less Inv-loop μ-loop
@@ -92,15 +102,16 @@ loop-again c =
     let told = offers .before in
     let v = told .before .before .before in
     let l = v .before .before in
-    let s = l .before .before .before .before .before in
+    let s = l .before .before .before .before .before .before in
     let a = s .args in
     let k = searchOf (a .kind .0) in
     let w = now (a .ordering) in
     let r = now (a .rows) in
+    let all = whole (length r) (a .barred) in
     let e = c .place .ensures in
-    replay-next k r w (a .k) (s .pre) (l .loop .inv) (v .before .loop-test .taken) (v .vertex-at .ensures) (c .place .last .1 .1 .1 .0) (c .place .last .1 .1 .1 .1 .0)
+    replay-next k r all w (a .k) (whole-inside (s .pre .small) (a .barred)) (s .pre) (l .loop .inv) (v .before .loop-test .taken) (v .vertex-at .ensures) (c .place .last .1 .1 .1 .0) (c .place .last .1 .1 .1 .1 .0)
     (c .place .last .1 .1 .1 .1 .1 .0) (c .place .result)
-    (goes-on (stopsAt k r w (l .loop .j)) (said-true (not (stopsAt k r w (l .loop .j))) (answered told) (not-false (told .is-open .result) (offers .if1 .left))))
+    (goes-on (stopsAt k r all w (l .loop .j)) (said-true (not (stopsAt k r all w (l .loop .j))) (answered told) (not-false (told .is-open .result) (offers .if1 .left))))
     (e .1 .1 .0) (e .1 .1 .1 .0) (e .1 .1 .1 .1 .0) (e .0) (e .1 .0) (e .1 .1 .1 .1 .1)
   where
     goes-on : (b : Bool) → T (not b) → T b → ⊥
@@ -110,22 +121,23 @@ loop-again c =
 returns-2 : tie.Need-returns-2 Inv-loop μ-loop
 returns-2 c =
     let l = c .before in
-    let s = l .before .before .before .before .before in
+    let s = l .before .before .before .before .before .before in
     let k = searchOf (s .args .kind .0) in
     let w = now (s .args .ordering) in
     let r = now (s .args .rows) in
+    let all = whole (length r) (s .args .barred) in
     let i = l .loop .inv in
     let e : l .loop .j ≡ s .args .k = omega (arith, i .upto) in (
-      sym e ∙ replay-end k r w (s .args .k) i (omega arith),
+      sym e ∙ replay-end k r all w (s .args .k) i (omega arith),
       (
         i .set ∙ ap (λ (m : ℕ). placedAfter w m) e,
         (
-          i .unplaced ∙ ap (λ (m : ℕ). freeAfter (length r) w m) e,
+          i .unplaced ∙ ap (λ (m : ℕ). freeAfter all w m) e,
           (
-            i .labelled ∙ ap (λ (m : ℕ). labelsAfter r w m) e,
+            i .labelled ∙ ap (λ (m : ℕ). labelsAfter r all w m) e,
             (
-              i .smallest-after ∙ ap (λ (m : ℕ). smallestAfter r w m) e,
-              (i .largest-after ∙ ap (λ (m : ℕ). largestAfter r w m) e, subst (Staged k (l .loop .labels) (l .loop .weights) (l .loop .stage)) e (i .staged)),
+              i .smallest-after ∙ ap (λ (m : ℕ). smallestAfter r all w m) e,
+              (i .largest-after ∙ ap (λ (m : ℕ). largestAfter r all w m) e, subst (Staged k (l .loop .labels) (l .loop .weights) (l .loop .stage)) e (i .staged)),
             ),
           ),
         ),
@@ -139,6 +151,7 @@ replay-spec =
     Inv-loop
     μ-loop
     full-below-requires
+    without-requires
     loop-holds
     vertex-at-requires
     is-open-requires
