@@ -81,7 +81,8 @@ fn charge_refusal(
     ensures { λ r. ⌜ refusalOf r ≡ firstRefusal (chargeTests (kind .0) mark (now (rows .entry)) (now (ordering .entry)) (now (minutes .entry)) rate) ⌝ }
 {
     let n = rows.len();
-    let judged = engine::judge(kind, mark, rows, ordering);
+    // no vertex is barred
+    let judged = engine::judge(kind, mark, rows, 0, ordering);
     match judged {
         Judgement::Passes => refusal_after_judge(n, minutes, rate, true),
         Judgement::Fails(_) => refusal_after_judge(n, minutes, rate, false),

@@ -143,6 +143,7 @@ fn start(kind: u8, mark: Mark, n: usize, rows: [u64; 64]) -> Traversal {
         mark,
         n,
         rows,
+        barred: 0,
         k: 0,
         ordering: [0u8; 64],
     }
@@ -183,7 +184,7 @@ fn play_on_nine(kind: u8, mark: Mark) {
 fn play_on_largest(kind: u8, mark: Mark) {
     let r = seed(kind, mark, 64, plans::FEW);
     let rows = plans::largest(mark, r);
-    let opened = Traversal::open(Kind(kind), mark, &rows);
+    let opened = Traversal::open(Kind(kind), mark, &rows, 0);
     let t = opened.traversal;
     let t = compare_each(grown_by_sixteen(t, r), SPREAD, 10);
     compare_each(grown_by_sixteen(t, next(r)), SPREAD, 10);
@@ -209,6 +210,7 @@ fn made(
         mark,
         n,
         rows,
+        barred: 0,
         k,
         ordering,
     }

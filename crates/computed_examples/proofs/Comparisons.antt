@@ -1,5 +1,5 @@
--- Comparisons that are computed: in every kind, with nothing placed and with everything placed, on one-way plans, without points and with 64, and
--- refused ones with everything wrong that is tried later.
+-- Comparisons that are computed: in every kind, with nothing placed and with everything placed, on one-way plans, without points and with 64, with points
+-- barred, and refused ones with everything wrong that is tried later.
 --   Example           an open walk, two numbers, and what is to be answered
 --   examples          a list of them;   examples-right   each is what the definitions give
 -- Assumes nothing.
@@ -15,7 +15,8 @@ use Rattle.searches.specs.Label.{label, empty, nearer, settled, outranks}
 use Rattle.searches.specs.Running.{smallestIn, largestIn}
 use Rattle.searches.specs.Comparison.{alike, sameValue, level, toldBy, compared}
 use Rattle.searches.specs.Violation.{condition, meets, violates, third, isLast, isFirst, isMiddle, judge}
-use Rattle.searches.specs.Answer.{bitOutside, selfLoop, oneWay, isTwoWay, vertexOutside, repeated, isPass, openTests, judgeTests, firstRefusal, judgeAnswer}
+use Rattle.searches.specs.Without.{numberOf, nameOf, numbered, arcsOf, namedVerdict, judgeWithout, comparedWithout}
+use Rattle.searches.specs.Answer.{bitOutside, selfLoop, oneWay, isTwoWay, vertexOutside, repeated, isPass, openTests, firstRefusal, unbarred, barredOutside, barredNamed, openTestsBarring, judgeTestsBarring, judgeBarring}
 use Rattle.searches.specs.declared.Comparison.{Comparison}
 use Rattle.searches.specs.declared.Mark.{Mark}
 use Rattle.traversal.specs.declared.Traversal.{Traversal}
@@ -30,8 +31,12 @@ pub record Example : Type 0 where
   pub second : ℕ
   pub answer : Report
 
+abbrev barring : ℕ → ℕ → Mark → List ℕ → List ℕ → ℕ → ℕ → Report → Example
+barring barred kind mark rows w u v answer = record { state = holding kind mark rows barred w; first = u; second = v; answer = answer }
+
+-- with nothing barred
 abbrev call : ℕ → Mark → List ℕ → List ℕ → ℕ → ℕ → Report → Example
-call kind mark rows w u v answer = record { state = holding kind mark rows w; first = u; second = v; answer = answer }
+call = barring 0
 
 abbrev ahead : Report
 ahead = told Comparison.Ahead
@@ -80,13 +85,25 @@ examples =
     ∷ call 3 Mark.TwoWay (2 ∷ 1 ∷ 0 ∷ []) (0 ∷ 2 ∷ []) 0 200 (refused 13)
     ∷ call 7 Mark.TwoWay (2 ∷ 1 ∷ 0 ∷ []) [] 0 200 (refused 13)
     ∷ call 0 Mark.TwoWay [] [] 0 0 (refused 8)
+    -- 0 leads to 1 and 2, 1 to 3: with 1 barred the walk 0 2 passes, and 3 is not reached; 24 on both points after 8 and before 15
+    ∷ call 1 Mark.OneWay (6 ∷ 8 ∷ 0 ∷ 0 ∷ []) (0 ∷ 1 ∷ []) 2 3 ahead
+    ∷ barring 2 1 Mark.OneWay (6 ∷ 8 ∷ 0 ∷ 0 ∷ []) (0 ∷ []) 2 3 ahead
+    ∷ barring 2 1 Mark.OneWay (6 ∷ 8 ∷ 0 ∷ 0 ∷ []) (0 ∷ 2 ∷ []) 3 3 same
+    ∷ barring 2 1 Mark.OneWay (6 ∷ 8 ∷ 0 ∷ 0 ∷ []) (0 ∷ 2 ∷ []) 3 4 (refused 8)
+    ∷ barring 2 1 Mark.OneWay (6 ∷ 8 ∷ 0 ∷ 0 ∷ []) (0 ∷ 2 ∷ []) 0 1 (refused 24)
+    ∷ barring 2 1 Mark.OneWay (6 ∷ 8 ∷ 0 ∷ 0 ∷ []) (0 ∷ 2 ∷ []) 0 3 (refused 15)
+    -- a placed point is barred; the set has a bit at n
+    ∷ barring 1 1 Mark.OneWay (6 ∷ 8 ∷ 0 ∷ 0 ∷ []) (0 ∷ 2 ∷ []) 3 3 (refused 13)
+    ∷ barring 16 1 Mark.OneWay (6 ∷ 8 ∷ 0 ∷ 0 ∷ []) (0 ∷ 2 ∷ []) 3 3 (refused 13)
     -- 64 points, one link
     ∷ call 4 Mark.TwoWay (2 ^ 63 ∷ replicate 62 0 ++ 1 ∷ []) (0 ∷ []) 62 63 behind
+    ∷ barring (2 ^ 62) 4 Mark.TwoWay (2 ^ 63 ∷ replicate 62 0 ++ 1 ∷ []) (0 ∷ []) 61 63 behind
     ∷ call 4 Mark.TwoWay (2 ^ 63 ∷ replicate 62 0 ++ 1 ∷ []) (0 ∷ []) 64 63 (refused 8)
     ∷ []
 
 pub examples-right : map (λ (e : Example). compareAnswer (e .state) (e .first) (e .second)) examples ≡ map (λ (e : Example). e .answer) examples
 unfolding anyBelow allBelow firstBelow lastBelow countBelow differ within member searchOf arcs placed label empty nearer settled outranks smallestIn largestIn
     alike sameValue level toldBy compared condition meets violates third isLast isFirst isMiddle judge bitOutside selfLoop oneWay isTwoWay vertexOutside repeated isPass
-    openTests judgeTests firstRefusal judgeAnswer plan walk usedAt usedFrom wellFormed holding compareTests stance reported compareAnswer
+    openTests firstRefusal unbarred barredOutside barredNamed openTestsBarring judgeTestsBarring judgeBarring numberOf nameOf numbered arcsOf namedVerdict judgeWithout
+    comparedWithout plan walk usedAt usedFrom wellFormed holding compareTests stance reported compareAnswer
 examples-right = refl

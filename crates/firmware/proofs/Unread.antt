@@ -15,10 +15,10 @@ use native.Mathlib.Omega.{arith}
 use lib.Dec.{T, ltb, eqb, ltb→lt, lt→ltb, nltb→le, eqb→eq, not-T}
 use lib.ListN.{length}
 use Rattle.searches.specs.Violation.{Verdict, refused}
-use Rattle.searches.specs.Answer.{openTests, judgeTests, listTests, carryOnTests, firstRefusal, Refuses, judgeAnswer, carryOnAnswer, carryOnOutput}
+use Rattle.searches.specs.Answer.{openTests, openTestsBarring, judgeTestsBarring, listTestsBarring, carryOnTestsBarring, firstRefusal, Refuses, judgeBarring, carryOnBarring, outputBarring}
 use Rattle.searches.specs.declared.Mark.{Mark}
 use Rattle.searches.proofs.Refusals.{refuses-first, first-refuses, accepts-none, none-accepts}
-use Rattle.searches.proofs.Answers.{judge-refused, carryOn-kept}
+use Rattle.searches.proofs.Barring.{judge-refused, carryOn-kept}
 use Rattle.firmware.specs.Plan.{planRows}
 use Rattle.firmware.proofs.Reading.{rows-count}
 use Rattle.firmware.specs.Code.{codeOf, numberOf, planTests, readTests, judgeCode, carryOnCode, carryOnLeaves}
@@ -74,37 +74,37 @@ module _ (kind : ℕ) (plan : List ℕ) where
         asked = accepts-none (planTests kind plan) (a .0, (a .1 .0, tt));
       }
 
-  module _ (mark : Mark) (walk : List ℕ) where
-    pub judge-unread : {q : ℕ} → some q ≡ firstRefusal (readTests kind plan) → q ≡ judgeCode kind mark plan walk
-    unfolding Unread openTests judgeTests codeOf judgeCode
+  module _ (mark : Mark) (barred : ℕ) (walk : List ℕ) where
+    pub judge-unread : {q : ℕ} → some q ≡ firstRefusal (readTests kind plan) → q ≡ judgeCode kind mark plan barred walk
+    unfolding Unread openTests openTestsBarring judgeTestsBarring codeOf judgeCode
     judge-unread {q} e = go (unread e)
       where
-        go : Unread q → q ≡ judgeCode kind mark plan walk
+        go : Unread q → q ≡ judgeCode kind mark plan barred walk
         go (inl first) = rw (first, judgeCode)
         go (inr (two, x)) =
-            let answer : judgeAnswer kind mark (planRows plan) walk ≡ refused 2 = judge-refused kind mark (planRows plan) walk 2 (inr (x .known, inl (refl, x .many))) in
+            let answer : judgeBarring kind mark (planRows plan) barred walk ≡ refused 2 = judge-refused kind mark (planRows plan) barred walk 2 (inr (x .known, inl (refl, x .many))) in
             rw (x .asked, judgeCode, answer, two)
 
     pub judge-read : none ≡ firstRefusal (readTests kind plan) → {rows : List ℕ} {verdict : Verdict} {r : ℕ} → rows ≡ planRows plan
-        → verdict ≡ judgeAnswer kind mark rows walk → r ≡ codeOf verdict → r ≡ judgeCode kind mark plan walk
+        → verdict ≡ judgeBarring kind mark rows barred walk → r ≡ codeOf verdict → r ≡ judgeCode kind mark plan barred walk
     unfolding judgeCode
     judge-read e same judged code = rw (code, judged, same, read e .asked, judgeCode)
 
-  module _ (mark : Mark) (preference output : List ℕ) (k : ℕ) where
+  module _ (mark : Mark) (barred : ℕ) (preference output : List ℕ) (k : ℕ) where
     pub carryOn-unread : {q : ℕ} → some q ≡ firstRefusal (readTests kind plan)
-        → (q ≡ carryOnCode kind mark plan preference output k) × (output ≡ carryOnLeaves kind mark plan preference output k)
-    unfolding Unread openTests listTests carryOnTests numberOf carryOnAnswer carryOnCode carryOnLeaves
+        → (q ≡ carryOnCode kind mark plan barred preference output k) × (output ≡ carryOnLeaves kind mark plan barred preference output k)
+    unfolding Unread openTests openTestsBarring listTestsBarring carryOnTestsBarring numberOf carryOnBarring carryOnCode carryOnLeaves
     carryOn-unread {q} e = go (unread e)
       where
-        go : Unread q → (q ≡ carryOnCode kind mark plan preference output k) × (output ≡ carryOnLeaves kind mark plan preference output k)
+        go : Unread q → (q ≡ carryOnCode kind mark plan barred preference output k) × (output ≡ carryOnLeaves kind mark plan barred preference output k)
         go (inl first) = (rw (first, carryOnCode), rw (first, carryOnLeaves))
         go (inr (two, x)) =
-            let refuses : Refuses 2 (carryOnTests kind mark (planRows plan) preference output k) = inr (x .known, inl (refl, x .many)) in
-            let answer : carryOnAnswer kind mark (planRows plan) preference output k ≡ some 2 = refuses-first (carryOnTests kind mark (planRows plan) preference output k) 2 refuses in
-            (rw (x .asked, carryOnCode, answer, two), rw (x .asked, carryOnLeaves, carryOn-kept kind mark (planRows plan) preference output k 2 refuses))
+            let refuses : Refuses 2 (carryOnTestsBarring kind mark (planRows plan) barred preference output k) = inr (x .known, inl (refl, x .many)) in
+            let answer : carryOnBarring kind mark (planRows plan) barred preference output k ≡ some 2 = refuses-first (carryOnTestsBarring kind mark (planRows plan) barred preference output k) 2 refuses in
+            (rw (x .asked, carryOnCode, answer, two), rw (x .asked, carryOnLeaves, carryOn-kept kind mark (planRows plan) barred preference output k 2 refuses))
 
     pub carryOn-read : none ≡ firstRefusal (readTests kind plan) → {rows left : List ℕ} {answer : Option ℕ} {r : ℕ} → rows ≡ planRows plan
-        → answer ≡ carryOnAnswer kind mark rows preference output k → left ≡ carryOnOutput kind mark rows preference output k → r ≡ numberOf answer
-        → (r ≡ carryOnCode kind mark plan preference output k) × (left ≡ carryOnLeaves kind mark plan preference output k)
+        → answer ≡ carryOnBarring kind mark rows barred preference output k → left ≡ outputBarring kind mark rows barred preference output k → r ≡ numberOf answer
+        → (r ≡ carryOnCode kind mark plan barred preference output k) × (left ≡ carryOnLeaves kind mark plan barred preference output k)
     unfolding carryOnCode carryOnLeaves
     carryOn-read e same answered leaves code = (rw (code, answered, same, read e .asked, carryOnCode), rw (leaves, same, read e .asked, carryOnLeaves))

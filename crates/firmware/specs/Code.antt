@@ -3,10 +3,10 @@
 --   numberOf answer          0 where nothing was refused, else the refusal's number                                 [01: From C]
 --   planTests kind plan      what is refused before judge and carry-on are asked: numbers and tests                 [01: refusals 1, 2]
 --   readTests kind plan      the same and, last, more than 64 rows, which need not be read: 512 bytes are 64 rows
---   judgeCode kind mark plan walk                     what the entry that judges plans of this mark answers         [01: From C; 02: K4]
---   carryOnCode kind mark plan preference output k    likewise, the entry that carries on                           [01: From C; 02: K4]
---   carryOnLeaves kind mark plan preference output k  what the output list then holds
--- More than 64 rows are refused by judgeAnswer and carryOnAnswer themselves, with 2: no test but the kind's comes before that one.
+--   judgeCode kind mark plan barred walk                     what the entry that judges plans of this mark answers         [01: From C; 02: K4, K8]
+--   carryOnCode kind mark plan barred preference output k    likewise, the entry that carries on                           [01: From C; 02: K4, K8]
+--   carryOnLeaves kind mark plan barred preference output k  what the output list then holds
+-- More than 64 rows are refused by judgeBarring and carryOnBarring themselves, with 2: no test but the kind's comes before that one.
 use Prim.Native.Nat.{ℕ, _+_, _*_, _%_}
 use mathlib.Core.Bool.{Bool, not}
 use mathlib.Core.List.{List, [], _∷_, _++_}
@@ -14,7 +14,7 @@ use mathlib.Core.Option.{Option, none, some}
 use lib.Dec.{ltb, eqb}
 use lib.ListN.{length}
 use Rattle.searches.specs.Violation.{Verdict, passes, fails, refused}
-use Rattle.searches.specs.Answer.{firstRefusal, judgeAnswer, carryOnAnswer, carryOnOutput}
+use Rattle.searches.specs.Answer.{firstRefusal, judgeBarring, carryOnBarring, outputBarring}
 use Rattle.searches.specs.declared.Mark.{Mark}
 use Rattle.firmware.specs.Plan.{planRows}
 
@@ -33,24 +33,24 @@ planTests kind plan = (1, ltb 6 kind) ∷ (2, not (eqb (length plan % 8) 0)) ∷
 unfoldable pub readTests : ℕ → List ℕ → List (ℕ × Bool)
 readTests kind plan = planTests kind plan ++ (2, ltb 512 (length plan)) ∷ []
 
-unfoldable pub judgeCode : ℕ → Mark → List ℕ → List ℕ → ℕ
-judgeCode kind mark plan walk =
+unfoldable pub judgeCode : ℕ → Mark → List ℕ → ℕ → List ℕ → ℕ
+judgeCode kind mark plan barred walk =
     elim (firstRefusal (planTests kind plan)) [
-      | none ↦ codeOf (judgeAnswer kind mark (planRows plan) walk)
+      | none ↦ codeOf (judgeBarring kind mark (planRows plan) barred walk)
       | some r ↦ r
     ]
 
-module _ (kind : ℕ) (mark : Mark) (plan preference output : List ℕ) (k : ℕ) where
+module _ (kind : ℕ) (mark : Mark) (plan : List ℕ) (barred : ℕ) (preference output : List ℕ) (k : ℕ) where
   unfoldable pub carryOnCode : ℕ
   carryOnCode =
       elim (firstRefusal (planTests kind plan)) [
-        | none ↦ numberOf (carryOnAnswer kind mark (planRows plan) preference output k)
+        | none ↦ numberOf (carryOnBarring kind mark (planRows plan) barred preference output k)
         | some r ↦ r
       ]
 
   unfoldable pub carryOnLeaves : List ℕ
   carryOnLeaves =
       elim (firstRefusal (planTests kind plan)) [
-        | none ↦ carryOnOutput kind mark (planRows plan) preference output k
+        | none ↦ outputBarring kind mark (planRows plan) barred preference output k
         | some r ↦ output
       ]

@@ -47,7 +47,8 @@ fn judged_lines(output: &mut [u8], rows: &[u64], ordering: &[u8]) -> usize
 {
     let mut at = 0;
     for kind in 0u8..7 {
-        let judgement = engine::judge(Kind(kind), Mark::TwoWay, rows, ordering);
+        // no vertex is barred
+        let judgement = engine::judge(Kind(kind), Mark::TwoWay, rows, 0, ordering);
         at = judged_line(output, at, kind, judgement);
     }
     at

@@ -91,7 +91,7 @@ fn open(kind: u8, mark: Mark, plan: u64, n: usize) -> Stepped
     requires { ⌜ n ≤ 64 ⌝ }
 {
     let rows = notation::rows_of(plan);
-    Traversal::open(Kind(kind), mark, &rows[..n])
+    Traversal::open(Kind(kind), mark, &rows[..n], 0)
 }
 
 fn play(kind: u8, mark: Mark, plan: u64, n: usize)
@@ -127,6 +127,7 @@ fn made(kind: u8, mark: Mark, n: usize, k: usize, plan: u64, last_row: u64, walk
         mark,
         n,
         rows,
+        barred: 0,
         k,
         ordering,
     });
@@ -167,7 +168,7 @@ fn played(kind: u8) {
 
 fn open_crowd(mark: Mark) {
     let crowd = [0u64; 65];
-    show_open(0, mark, Traversal::open(Kind(0), mark, &crowd));
+    show_open(0, mark, Traversal::open(Kind(0), mark, &crowd, 0));
 }
 
 // Refused with 1 to 4 under either mark. The last two have links that go one way only: refused with 5 if two-way, opened if one-way.

@@ -53,7 +53,8 @@ fn way_refusal(mark: Mark, rows: &[u64], ordering: &[u8], vertex: Vertex, room: 
     ensures { λ r. ⌜ refusalOf r ≡ firstRefusal (wayTests mark (now (rows .entry)) (now (ordering .entry)) (vertex .0) room) ⌝ }
 {
     let n = rows.len();
-    let judged = engine::judge(Kind::BFS, mark, rows, ordering);
+    // no vertex is barred
+    let judged = engine::judge(Kind::BFS, mark, rows, 0, ordering);
     match judged {
         Judgement::Passes => refusal_after_bfs(n, ordering, vertex, room, true),
         Judgement::Fails(_) => refusal_after_bfs(n, ordering, vertex, room, false),

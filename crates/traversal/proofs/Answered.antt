@@ -1,7 +1,8 @@
 -- What the calls hand back, from the answer.
 --   next-handed, kept-handed         the next state where nothing is refused, else the one that is kept
---   mark-handed                      the mark stays
+--   field-handed                     a field that both have alike
 --   place-room, take-back-room       there is a position to write
+--   offers-vertex                    who is offered is a vertex
 --   set-same-test, offered-whole, offered-refused    the offered set, from the words of the moment
 --   offered-member                   and what is in it
 -- Assumes nothing.
@@ -12,18 +13,26 @@ use mathlib.Core.Logic.{_⊎_, inl, inr}
 use mathlib.Core.Option.{Option, none, some}
 use native.Mathlib.Omega.{arith}
 use lib.Dec.{T, ltb, eqb, lt→ltb, eqb-refl, not-T}
+use lib.ListN.{length}
+use Rattle.bitset.specs.Below.{countBelow}
 use Rattle.bitset.specs.Word.{member, inserted}
-use Rattle.bitset.proofs.Tests.{and-in, and-out, not-not, same-test, cond-yes, three-ways}
+use Rattle.bitset.proofs.Tests.{and-in, and-out, not-not, same-test, cond-yes, below-or, three-ways}
+use Rattle.bitset.proofs.Count.{count-le}
 use Rattle.searches.specs.Kind.{searchOf}
 use Rattle.searches.specs.Ordering.{arcs}
-use Rattle.searches.specs.Answer.{firstRefusal}
+use Rattle.searches.specs.Run.{offered}
+use Rattle.searches.specs.Without.{numberOf, numbered, arcsOf, offeredWithout}
+use Rattle.searches.specs.Answer.{firstRefusal, unbarred}
+use Rattle.searches.proofs.Ordering.{ordering-fits}
 use Rattle.searches.proofs.Run.{offered-out}
+use Rattle.searches.proofs.Naming.{number-beyond}
+use Rattle.searches.proofs.Renumbered.{numbered-ordering}
 use Rattle.searches.proofs.Refusals.{none-accepts}
 use Rattle.traversal.specs.declared.Traversal.{Traversal}
 use Rattle.bitset.specs.Word.{setBelow}
-use Rattle.traversal.specs.State.{plan, walk, wellFormed, offers, unlessRefused, placeTests, placeAnswer, takeBackTests, takeBackAnswer, offeredAnswer, offeredSet}
+use Rattle.traversal.specs.State.{plan, walk, inService, wellFormed, offers, unlessRefused, placeTests, placeAnswer, takeBackTests, takeBackAnswer, offeredAnswer, offeredSet}
 use Rattle.bitset.proofs.Joining.{member-setBelow}
-use Rattle.traversal.proofs.WellFormed.{parts}
+use Rattle.traversal.proofs.WellFormed.{parts, well-formed-out}
 
 pub next-handed : {answer : Option ℕ} (next kept : Traversal) → none ≡ answer → next ≡ unlessRefused answer next kept
 unfolding unlessRefused
@@ -33,30 +42,34 @@ pub kept-handed : {answer : Option ℕ} (next kept : Traversal) {r : ℕ} → so
 unfolding unlessRefused
 kept-handed next kept e = ap (λ (answer : Option ℕ). unlessRefused answer next kept) e
 
--- whichever it is, it has the mark that both have
-pub mark-handed : (answer : Option ℕ) (next kept : Traversal) → next .mark ≡ kept .mark → unlessRefused answer next kept .mark ≡ kept .mark
+-- whichever it is, a field that both have alike is that
+pub field-handed : {A : Type 0} (field : Traversal → A) (answer : Option ℕ) (next kept : Traversal) → field next ≡ field kept → field (unlessRefused answer next kept) ≡ field kept
 unfolding unlessRefused
-mark-handed none next kept same = same
-mark-handed (some r) next kept same = refl
+field-handed field none next kept same = same
+field-handed field (some r) next kept same = refl
 
 -- a number that does not equal another
 differs : {a b : ℕ} → (T (eqb a b) → ⊥) → a ≡ b → ⊥
 differs {a} apart e = apart (subst (λ (x : ℕ). T (eqb a x)) e (eqb-refl a))
 
-pub place-room : (t : Traversal) (v : ℕ) → none ≡ placeAnswer t v → t .k < 64
-unfolding placeAnswer placeTests
-place-room t v e =
+-- fewer are placed than are not barred
+pub place-room : (t : Traversal) → length (t .rows) ≡ 64 → length (t .ordering) ≡ 64 → (v : ℕ) → none ≡ placeAnswer t v → (t .k < inService t) × (t .k < 64)
+unfolding placeAnswer placeTests inService
+place-room t rows-full ordering-full v e =
     let a = none-accepts (placeTests t v) (sym e) in
-    let p = parts t (not-not (wellFormed t) (not-T (not (wellFormed t)) (a .0))) in
-    below (p .places) (p .points) (differs (a .1 .0))
+    let x = well-formed-out t rows-full ordering-full (not-not (wellFormed t) (not-T (not (wellFormed t)) (a .0))) in
+    let fits = ordering-fits (countBelow (t .n) (unbarred (t .barred))) (numbered-ordering (t .n) (unbarred (t .barred)) (walk t) (t .k) (x .distinct) (x .stays)) in
+    let fewer = count-le (t .n) (unbarred (t .barred)) in
+    let l = below fits (differs (a .1 .0)) in
+    (l, omega (arith, fewer, x .points))
   where
-    below : {k n : ℕ} → k ≤ n → n ≤ 64 → (k ≡ n → ⊥) → k < 64
-    below {k} {n} l h other = go (three-ways k n)
+    below : {k m : ℕ} → k ≤ m → (k ≡ m → ⊥) → k < m
+    below {k} {m} l other = go (three-ways k m)
       where
-        go : (k < n) ⊎ ((k ≡ n) ⊎ (n < k)) → k < 64
-        go (inl g) = omega arith
+        go : (k < m) ⊎ ((k ≡ m) ⊎ (m < k)) → k < m
+        go (inl g) = g
         go (inr (inl g)) = absurd (other g)
-        go (inr (inr g)) = omega arith
+        go (inr (inr g)) = absurd (omega arith)
 
 pub take-back-room : (t : Traversal) → none ≡ takeBackAnswer t → (1 ≤ t .k) × (t .k ≤ 64)
 unfolding takeBackAnswer takeBackTests
@@ -91,11 +104,27 @@ offered-refused t broken = (
   sym (ap (λ (b : Bool). cond {A = Option ℕ} (not b) (some 13) none) broken),
 )
 
+-- who is offered is a vertex
+offers-vertex : (t : Traversal) (v : ℕ) → T (offers t v) → v < t .n
+unfolding offers offeredWithout
+offers-vertex t v o = go (below-or v (t .n))
+  where
+    kept : ℕ → Bool
+    kept = unbarred (t .barred)
+
+    go : (v < t .n) ⊎ (t .n ≤ v) → v < t .n
+    go (inl l) = l
+    go (inr l) =
+        let x = offered-out (searchOf (t .kind .0)) (arcsOf (t .n) kept (arcs (plan t))) (countBelow (t .n) kept) (numbered kept (walk t)) (t .k) (numberOf kept v)
+        (and-out (kept v) (offered (searchOf (t .kind .0)) (arcsOf (t .n) kept (arcs (plan t))) (countBelow (t .n) kept) (numbered kept (walk t)) (t .k) (numberOf kept v)) o .1)
+        in
+        absurd (omega (arith, x .vertex, number-beyond kept (t .n) v l))
+
 -- what is in it
 pub offered-member : (t : Traversal) → T (wellFormed t) → (v : ℕ) → member (offeredSet t) v ≡ offers t v
-unfolding offeredSet offers
+unfolding offeredSet
 offered-member t formed v =
     ap (λ (set : ℕ). member set v) (cond-yes (wellFormed t) (setBelow (t .n) (offers t)) 0 formed)
     ∙ member-setBelow (t .n) (parts t formed .points) (offers t) v
     ∙ same-test (ltb v (t .n) && offers t v) (offers t v) (λ x. and-out (ltb v (t .n)) (offers t v) x .1) (λ o.
-    and-in (ltb v (t .n)) (offers t v) (lt→ltb v (t .n) (offered-out (searchOf (t .kind .0)) (arcs (plan t)) (t .n) (walk t) (t .k) v o .vertex)) o)
+    and-in (ltb v (t .n)) (offers t v) (lt→ltb v (t .n) (offers-vertex t v o)) o)

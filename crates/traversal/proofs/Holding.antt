@@ -1,6 +1,7 @@
 -- An open walk that holds an ordering: what it is made of, and how the calls change what it holds.
 --   holding-plan, holding-walk, holding-full   its rows, its ordering, its arrays
---   holding-formed                   it is well formed where each vertex was offered at its time
+--   Sound                            an ordering of vertices that are not barred, which passes
+--   holding-formed                   it is well formed where what it holds is such an ordering
 --   holding-offers                   and offers what is offered after its ordering
 --   opened-holding, grown-holding, shrunk-holding      what open, place and take back make of it
 -- Assumes nothing.
@@ -15,19 +16,27 @@ use native.Mathlib.Numerals.{add-one}
 use lib.Dec.{T, eqb, leb, eqb→eq, leb→le, not-T, T-not}
 use lib.ListN.{length, take, set, replicate, length-append, length-replicate, getD-replicate}
 use lib.Seq.{take-append-seam, getD-append-add, set-append-seam, take-suc, take-length}
+use Rattle.bitset.specs.Below.{countBelow}
+use Rattle.bitset.specs.Word.{member}
+use Rattle.bitset.proofs.Count.{count-le}
 use Rattle.bitset.proofs.Tests.{decided, not-not, cond-yes, cond-no}
 use Rattle.searches.specs.Kind.{searchOf}
 use Rattle.searches.specs.Ordering.{arcs, at, placed, IsOrdering}
-use Rattle.searches.specs.Run.{offered}
-use Rattle.searches.specs.Violation.{passes, judge}
+use Rattle.searches.specs.Violation.{passes}
+use Rattle.searches.specs.Without.{numbered, arcsOf, IsKeptOrdering, judgeWithout, offeredWithout}
 use Rattle.searches.specs.declared.Mark.{Mark}
-use Rattle.searches.specs.Answer.{openTests, Accepts, Refuses, openAnswer}
-use Rattle.searches.proofs.Ordering.{ordering-fits, all-placed, length-grown, grown-agree}
-use Rattle.searches.proofs.Run.{offered-out, Greedy, greedy-ordering, greedy-agree, greedy-grown}
-use Rattle.searches.proofs.CarryOn.{greedy-passes}
+use Rattle.searches.specs.Answer.{openTests, Accepts, Refuses, unbarred, openTestsBarring, openBarring}
+use Rattle.searches.proofs.Ordering.{ordering-fits, length-grown}
+use Rattle.searches.proofs.CarryOn.{greedy-passes, passes-greedy}
+use Rattle.searches.proofs.Renumbered.{numbered-ordering}
+use Rattle.searches.proofs.OfferedKept.{offered-kept, offeredKept-out}
+use Rattle.searches.proofs.ComesBack.{passes-without, without-passes}
+use Rattle.searches.proofs.PartsBarring.{kept-prefix, kept-begins, judge-begins}
+use Rattle.searches.proofs.DemandsBarring.{offered-exactly}
+use Rattle.searches.proofs.Barring.{barredOutside-in, valid-graph, valid-set}
 use Rattle.searches.proofs.Refusals.{accepts-none, accepts-or-refuses, refuses-first}
 use Rattle.searches.proofs.Answers.{valid-small}
-use Rattle.traversal.specs.State.{state, plan, walk, wellFormed, WellFormed, offers, nothingOpen, opened, placeTests, placeAnswer, grown, takeBackTests, takeBackAnswer, shrunk}
+use Rattle.traversal.specs.State.{state, plan, walk, inService, wellFormed, WellFormed, offers, nothingOpen, opened, placeTests, placeAnswer, grown, takeBackTests, takeBackAnswer, shrunk}
 use Rattle.traversal.specs.Moves.{placing, front, remains, holding}
 use Rattle.traversal.proofs.WellFormed.{well-formed-in}
 use Rattle.traversal.proofs.Answered.{next-handed, kept-handed, place-room}
@@ -65,159 +74,187 @@ padded-shrunk u x h =
 
 -- ---- an open walk that holds w
 
-module _ (kind : ℕ) (mark : Mark) (rows : List ℕ) (valid : Accepts (openTests kind mark rows)) where
-  -- each vertex was offered at its time
-  abbrev pub Sound : List ℕ → Type 0
-  Sound w = Greedy (searchOf kind) (arcs rows) (length rows) w (length w)
+module _ (kind : ℕ) (mark : Mark) (rows : List ℕ) (barred : ℕ) (valid : Accepts (openTestsBarring kind mark rows barred)) where
+  abbrev kept : ℕ → Bool
+  kept = unbarred barred
 
-  pub holding-plan : (w : List ℕ) → plan (holding kind mark rows w) ≡ rows
+  -- an ordering of vertices that are not barred, which passes in the graph without the barred
+  abbrev pub Sound : List ℕ → Type 0
+  Sound w = IsKeptOrdering (length rows) kept w (length w) × (judgeWithout (searchOf kind) (arcs rows) (length rows) kept w (length w) ≡ passes)
+
+  pub sound-nothing : Sound []
+  sound-nothing = (
+    record { ordering = record { long = omega arith; vertices = λ p l. absurd (omega arith); distinct = λ p q h l. absurd (omega arith) }; stays = λ p l. absurd (omega arith) },
+    without-passes (searchOf kind) (arcs rows) (length rows) kept [] 0
+        (greedy-passes (searchOf kind) (arcsOf (length rows) kept (arcs rows)) (countBelow (length rows) kept) (numbered kept []) 0 (omega arith) (λ j l. absurd (omega arith))),
+  )
+
+  pub holding-plan : (w : List ℕ) → plan (holding kind mark rows barred w) ≡ rows
   unfolding plan holding
   holding-plan w = take-append-seam rows (replicate (64 - length rows) 0)
 
-  pub holding-walk : (w : List ℕ) → walk (holding kind mark rows w) ≡ w
+  pub holding-walk : (w : List ℕ) → walk (holding kind mark rows barred w) ≡ w
   unfolding walk holding
   holding-walk w = take-append-seam w (replicate (64 - length w) 0)
 
   small : length rows ≤ 64
-  small = valid-small kind mark rows valid
+  small = valid-small kind mark rows (valid-graph kind mark rows barred valid)
 
   module _ (w : List ℕ) (sound : Sound w) where
     pub distinct : IsOrdering (length rows) w (length w)
-    distinct = greedy-ordering (searchOf kind) (arcs rows) (length rows) w (length w) (omega arith) sound
+    distinct = sound .0 .ordering
 
-    pub fits : length w ≤ length rows
-    fits = ordering-fits (length rows) distinct
+    pub fits : length w ≤ countBelow (length rows) kept
+    fits = ordering-fits (countBelow (length rows) kept) (numbered-ordering (length rows) kept w (length w) distinct (sound .0 .stays))
 
-    pub passing : judge (searchOf kind) (arcs rows) (length rows) w (length w) ≡ passes
-    passing = greedy-passes (searchOf kind) (arcs rows) (length rows) w (length w) (omega arith) sound
+    short : length w ≤ 64
+    short = omega (arith, fits, count-le (length rows) kept, small)
 
-    pub holding-full : (length (holding kind mark rows w .rows) ≡ 64) × (length (holding kind mark rows w .ordering) ≡ 64)
+    pub holding-full : (length (holding kind mark rows barred w .rows) ≡ 64) × (length (holding kind mark rows barred w .ordering) ≡ 64)
     unfolding holding
-    holding-full = (padded-length rows small, padded-length w (omega (arith, fits, small)))
+    holding-full = (padded-length rows small, padded-length w short)
 
-    holding-conditions : WellFormed (holding kind mark rows w)
+    holding-conditions : WellFormed (holding kind mark rows barred w)
     unfolding holding
     holding-conditions = record {
       points = small;
-      valid = subst (λ (r : List ℕ). Accepts (openTests kind mark r)) (sym (holding-plan w)) valid;
+      valid = subst (λ (r : List ℕ). Accepts (openTests kind mark r)) (sym (holding-plan w)) (valid-graph kind mark rows barred valid);
+      set-inside = λ v l below m. valid-set kind mark rows barred valid (barredOutside-in barred (length rows) v below l m);
       distinct = subst (λ (x : List ℕ). IsOrdering (length rows) x (length w)) (sym (holding-walk w)) distinct;
+      stays = λ p l. subst (λ (x : List ℕ). T (kept (at x p))) (sym (holding-walk w)) (sound .0 .stays p l);
       passing =
-          ap₂ (λ (r x : List ℕ). judge (searchOf kind) (arcs r) (length rows) x (length w)) (holding-plan w) (holding-walk w) ∙ passing;
+          ap₂ (λ (r x : List ℕ). judgeWithout (searchOf kind) (arcs r) (length rows) kept x (length w)) (holding-plan w) (holding-walk w) ∙ sound .1;
       rows-unused = padded-unused rows;
       places-unused = padded-unused w;
     }
 
-    pub holding-formed : T (wellFormed (holding kind mark rows w))
-    holding-formed = well-formed-in (holding kind mark rows w) (holding-full .0) (holding-full .1) holding-conditions
+    pub holding-formed : T (wellFormed (holding kind mark rows barred w))
+    holding-formed = well-formed-in (holding kind mark rows barred w) (holding-full .0) (holding-full .1) holding-conditions
 
-    pub holding-offers : (v : ℕ) → offers (holding kind mark rows w) v ≡ offered (searchOf kind) (arcs rows) (length rows) w (length w) v
+    pub holding-offers : (v : ℕ) → offers (holding kind mark rows barred w) v ≡ offeredWithout (searchOf kind) (arcs rows) (length rows) kept w (length w) v
     unfolding offers holding
     holding-offers v =
-        ap₂ (λ (r x : List ℕ). offered (searchOf kind) (arcs r) (length rows) x (length w) v) (holding-plan w) (holding-walk w)
+        ap₂ (λ (r x : List ℕ). offeredWithout (searchOf kind) (arcs r) (length rows) kept x (length w) v) (holding-plan w) (holding-walk w)
 
     -- ---- placing
 
     -- an offered vertex is not refused
-    offered-accepted : (v : ℕ) → T (offered (searchOf kind) (arcs rows) (length rows) w (length w) v) → Accepts (placeTests (holding kind mark rows w) v)
-    unfolding placeTests holding
+    offered-accepted : (v : ℕ) → T (offeredWithout (searchOf kind) (arcs rows) (length rows) kept w (length w) v) → Accepts (placeTests (holding kind mark rows barred w) v)
+    unfolding placeTests holding inService unbarred
     offered-accepted v t =
-        let o = offered-out (searchOf kind) (arcs rows) (length rows) w (length w) v t in
-        let some-left : T (eqb (length w) (length rows)) → ⊥ =
-        λ x.
-        let all : length w ≡ length rows = eqb→eq (length w) (length rows) x in
-        o .unplaced (subst (λ (m : ℕ). T (placed w m v)) (sym all)
-        (all-placed (length rows) (subst (λ (m : ℕ). IsOrdering (length rows) w m) all distinct) v (o .vertex)))
+        let more = offered-exactly (searchOf kind) (arcs rows) (length rows) kept w v (sound .0) (sound .1) .0 t in
+        let vertex = offeredKept-out (searchOf kind) (arcs rows) (length rows) kept w (length w) v
+        (subst (λ (b : Bool). T b) (offered-kept (searchOf kind) (arcs rows) (length rows) kept w (length w) distinct (sound .0 .stays) v) t)
         in
-        let a-vertex : T (leb (length rows) v) → ⊥ = λ x. omega (arith, leb→le (length rows) v x, o .vertex) in
-        let unplaced : T (placed (walk (holding kind mark rows w)) (length w) v) → ⊥ =
-        λ x. o .unplaced (subst (λ (l : List ℕ). T (placed l (length w) v)) (holding-walk w) x)
+        let longer = ordering-fits (countBelow (length rows) kept) (numbered-ordering (length rows) kept (w ++ v ∷ []) (suc (length w)) (more .0 .ordering) (more .0 .stays)) in
+        let some-left : T (eqb (length w) (inService (holding kind mark rows barred w))) → ⊥ =
+        λ x. omega (arith, eqb→eq (length w) (countBelow (length rows) kept) x, longer)
         in
-        let is-offered : T (not (offers (holding kind mark rows w) v)) → ⊥ =
-        λ x. T-not (offers (holding kind mark rows w) v) x (subst (λ (b : Bool). T b) (sym (holding-offers v)) t)
+        let a-vertex : T (leb (length rows) v) → ⊥ = λ x. omega (arith, leb→le (length rows) v x, vertex .1) in
+        let in-service : T (member barred v) → ⊥ = T-not (member barred v) (vertex .0) in
+        let unplaced : T (placed (walk (holding kind mark rows barred w)) (length w) v) → ⊥ =
+        λ x. vertex .2 (subst (λ (l : List ℕ). T (placed l (length w) v)) (holding-walk w) x)
         in
-        ((λ x. T-not (wellFormed (holding kind mark rows w)) x holding-formed), (some-left, (a-vertex, (unplaced, (is-offered, tt)))))
+        let is-offered : T (not (offers (holding kind mark rows barred w) v)) → ⊥ =
+        λ x. T-not (offers (holding kind mark rows barred w) v) x (subst (λ (b : Bool). T b) (sym (holding-offers v)) t)
+        in
+        ((λ x. T-not (wellFormed (holding kind mark rows barred w)) x holding-formed), (some-left, (a-vertex, (in-service, (unplaced, (is-offered, tt))))))
 
-    pub sound-grown : (v : ℕ) → T (offered (searchOf kind) (arcs rows) (length rows) w (length w) v) → Sound (w ++ v ∷ [])
+    pub sound-grown : (v : ℕ) → T (offeredWithout (searchOf kind) (arcs rows) (length rows) kept w (length w) v) → Sound (w ++ v ∷ [])
     sound-grown v t =
-        subst (λ (m : ℕ). Greedy (searchOf kind) (arcs rows) (length rows) (w ++ v ∷ []) m) (sym (length-grown w v))
-        (greedy-grown (searchOf kind) (arcs rows) (length rows) w v sound t)
+        let more = offered-exactly (searchOf kind) (arcs rows) (length rows) kept w v (sound .0) (sound .1) .0 t in
+        subst (λ (m : ℕ). IsKeptOrdering (length rows) kept (w ++ v ∷ []) m × (judgeWithout (searchOf kind) (arcs rows) (length rows) kept (w ++ v ∷ []) m ≡ passes))
+        (sym (length-grown w v)) (more .0, more .1)
 
-    pub place-accepted : (v : ℕ) → T (offered (searchOf kind) (arcs rows) (length rows) w (length w) v) → placeAnswer (holding kind mark rows w) v ≡ none
+    pub place-accepted : (v : ℕ) → T (offeredWithout (searchOf kind) (arcs rows) (length rows) kept w (length w) v) → placeAnswer (holding kind mark rows barred w) v ≡ none
     unfolding placeAnswer
-    place-accepted v t = accepts-none (placeTests (holding kind mark rows w) v) (offered-accepted v t)
+    place-accepted v t = accepts-none (placeTests (holding kind mark rows barred w) v) (offered-accepted v t)
 
-    pub grown-offered : (v : ℕ) → T (offered (searchOf kind) (arcs rows) (length rows) w (length w) v)
-        → grown (holding kind mark rows w) v ≡ holding kind mark rows (w ++ v ∷ [])
+    pub grown-offered : (v : ℕ) → T (offeredWithout (searchOf kind) (arcs rows) (length rows) kept w (length w) v)
+        → grown (holding kind mark rows barred w) v ≡ holding kind mark rows barred (w ++ v ∷ [])
     unfolding grown holding
     grown-offered v t =
-        sym (next-handed _ (holding kind mark rows w) (sym (place-accepted v t)))
-        ∙ ap₂ (λ (k : ℕ) (o : List ℕ). state (record { 0 = kind }) mark (length rows) (rows ++ replicate (64 - length rows) 0) k o)
+        sym (next-handed _ (holding kind mark rows barred w) (sym (place-accepted v t)))
+        ∙ ap₂ (λ (k : ℕ) (o : List ℕ). state (record { 0 = kind }) mark (length rows) (rows ++ replicate (64 - length rows) 0) barred k o)
         (sym (length-grown w v ∙ sym (add-one (length w))))
-        (padded-grown w v (omega (arith, place-room (holding kind mark rows w) v (sym (place-accepted v t)))))
+        (padded-grown w v (place-room (holding kind mark rows barred w) (holding-full .0) (holding-full .1) v (sym (place-accepted v t)) .1))
 
-    pub grown-kept : (v : ℕ) → (T (offered (searchOf kind) (arcs rows) (length rows) w (length w) v) → ⊥)
-        → grown (holding kind mark rows w) v ≡ holding kind mark rows w
+    pub grown-kept : (v : ℕ) → (T (offeredWithout (searchOf kind) (arcs rows) (length rows) kept w (length w) v) → ⊥)
+        → grown (holding kind mark rows barred w) v ≡ holding kind mark rows barred w
     unfolding grown placeAnswer placeTests
-    grown-kept v out = go (accepts-or-refuses (placeTests (holding kind mark rows w) v))
+    grown-kept v out = go (accepts-or-refuses (placeTests (holding kind mark rows barred w) v))
       where
-        go : Accepts (placeTests (holding kind mark rows w) v) ⊎ ((r : ℕ) × Refuses r (placeTests (holding kind mark rows w) v))
-            → grown (holding kind mark rows w) v ≡ holding kind mark rows w
+        go : Accepts (placeTests (holding kind mark rows barred w) v) ⊎ ((r : ℕ) × Refuses r (placeTests (holding kind mark rows barred w) v))
+            → grown (holding kind mark rows barred w) v ≡ holding kind mark rows barred w
         go (inl a) =
             absurd (out (subst (λ (b : Bool). T b) (holding-offers v)
-            (not-not (offers (holding kind mark rows w) v) (not-T (not (offers (holding kind mark rows w) v)) (a .1 .1 .1 .1 .0)))))
-        go (inr x) = sym (kept-handed _ (holding kind mark rows w) (sym (refuses-first (placeTests (holding kind mark rows w) v) (x .0) (x .1))))
+            (not-not (offers (holding kind mark rows barred w) v) (not-T (not (offers (holding kind mark rows barred w) v)) (a .1 .1 .1 .1 .1 .0)))))
+        go (inr x) = sym (kept-handed _ (holding kind mark rows barred w) (sym (refuses-first (placeTests (holding kind mark rows barred w) v) (x .0) (x .1))))
 
   -- ---- taking back
 
   pub sound-before : (u : List ℕ) (x : ℕ) → Sound (u ++ x ∷ []) → Sound u
   sound-before u x g =
-      greedy-agree (searchOf kind) (arcs rows) (length rows) (length u) (u ++ x ∷ []) u (grown-agree u x)
-      (λ j l. g j (omega (arith, length-grown u x)))
+      let s = searchOf kind in
+      let n = length rows in
+      let n′ = countBelow n kept in
+      let arc′ = arcsOf n kept (arcs rows) in
+      let w = u ++ x ∷ [] in
+      let w′ = numbered kept w in
+      let less : length u ≤ length w = omega (arith, length-grown u x) in
+      let there = numbered-ordering n kept w (length w) (g .0 .ordering) (g .0 .stays) in
+      let greedy = passes-greedy s arc′ n′ w′ (length w) there (passes-without s (arcs rows) n kept w (length w) (g .1)) in
+      let cut = kept-prefix (length u) less (g .0) in
+      let front : take (length u) u ≡ take (length u) w = take-length u ∙ sym (take-append-seam u (x ∷ [])) in (
+        kept-begins n kept w u (length u) cut front,
+        judge-begins n kept w u (length u) cut front s (arcs rows)
+            ∙ without-passes s (arcs rows) n kept w (length u) (greedy-passes s arc′ n′ w′ (length u) (omega (arith, there .long)) (λ j l. greedy j (omega arith))),
+      )
 
-  pub shrunk-before : (u : List ℕ) (x : ℕ) → Sound (u ++ x ∷ []) → shrunk (holding kind mark rows (u ++ x ∷ [])) ≡ holding kind mark rows u
+  pub shrunk-before : (u : List ℕ) (x : ℕ) → Sound (u ++ x ∷ []) → shrunk (holding kind mark rows barred (u ++ x ∷ [])) ≡ holding kind mark rows barred u
   unfolding shrunk takeBackAnswer takeBackTests holding
   shrunk-before u x g =
       let w = u ++ x ∷ [] in
       let last : length w - 1 ≡ length u = omega (arith, length-grown u x) in
-      sym (next-handed _ (holding kind mark rows w) (sym (accepts-none (takeBackTests (holding kind mark rows w))
-      ((λ y. T-not (wellFormed (holding kind mark rows w)) y (holding-formed w g)), (λ y. omega (arith, eqb→eq (length w) 0 y, length-grown u x), tt)))))
-      ∙ ap (λ (m : ℕ). state (record { 0 = kind }) mark (length rows) (rows ++ replicate (64 - length rows) 0) m (set (w ++ replicate (64 - length w) 0) m 0)) last
-      ∙ ap (λ (o : List ℕ). state (record { 0 = kind }) mark (length rows) (rows ++ replicate (64 - length rows) 0) (length u) o)
-      (padded-shrunk u x (omega (arith, length-grown u x, fits w g, small)))
+      sym (next-handed _ (holding kind mark rows barred w) (sym (accepts-none (takeBackTests (holding kind mark rows barred w))
+      ((λ y. T-not (wellFormed (holding kind mark rows barred w)) y (holding-formed w g)), (λ y. omega (arith, eqb→eq (length w) 0 y, length-grown u x), tt)))))
+      ∙ ap (λ (m : ℕ). state (record { 0 = kind }) mark (length rows) (rows ++ replicate (64 - length rows) 0) barred m (set (w ++ replicate (64 - length w) 0) m 0)) last
+      ∙ ap (λ (o : List ℕ). state (record { 0 = kind }) mark (length rows) (rows ++ replicate (64 - length rows) 0) barred (length u) o)
+      (padded-shrunk u x (omega (arith, length-grown u x, short w g)))
 
-  pub shrunk-nothing : shrunk (holding kind mark rows []) ≡ holding kind mark rows []
+  pub shrunk-nothing : shrunk (holding kind mark rows barred []) ≡ holding kind mark rows barred []
   unfolding shrunk takeBackAnswer takeBackTests holding
   shrunk-nothing =
-      sym (kept-handed _ (holding kind mark rows []) (sym (refuses-first (takeBackTests (holding kind mark rows [])) 17
-      (inr ((λ y. T-not (wellFormed (holding kind mark rows [])) y (holding-formed [] (λ j l. absurd (omega arith)))), inl (refl, tt))))))
+      sym (kept-handed _ (holding kind mark rows barred []) (sym (refuses-first (takeBackTests (holding kind mark rows barred [])) 17
+      (inr ((λ y. T-not (wellFormed (holding kind mark rows barred [])) y (holding-formed [] sound-nothing)), inl (refl, tt))))))
 
   -- ---- all three, for any ordering
 
-  pub opened-holding : opened kind mark rows ≡ holding kind mark rows []
-  unfolding opened openAnswer holding
-  opened-holding = sym (next-handed _ nothingOpen (sym (accepts-none (openTests kind mark rows) valid)))
+  pub opened-holding : opened kind mark rows barred ≡ holding kind mark rows barred []
+  unfolding opened openBarring holding
+  opened-holding = sym (next-handed _ nothingOpen (sym (accepts-none (openTestsBarring kind mark rows barred) valid)))
 
   pub grown-holding : (w : List ℕ) → Sound w → (v : ℕ)
-      → (grown (holding kind mark rows w) v ≡ holding kind mark rows (remains (searchOf kind) (arcs rows) (length rows) w (placing v)))
-      × Sound (remains (searchOf kind) (arcs rows) (length rows) w (placing v))
+      → (grown (holding kind mark rows barred w) v ≡ holding kind mark rows barred (remains (searchOf kind) (arcs rows) (length rows) kept w (placing v)))
+      × Sound (remains (searchOf kind) (arcs rows) (length rows) kept w (placing v))
   unfolding remains
-  grown-holding w sound v = go (decided (offered (searchOf kind) (arcs rows) (length rows) w (length w) v))
+  grown-holding w sound v = go (decided (offeredWithout (searchOf kind) (arcs rows) (length rows) kept w (length w) v))
     where
-      go : T (offered (searchOf kind) (arcs rows) (length rows) w (length w) v) ⊎ (T (offered (searchOf kind) (arcs rows) (length rows) w (length w) v) → ⊥)
-          → (grown (holding kind mark rows w) v ≡ holding kind mark rows (remains (searchOf kind) (arcs rows) (length rows) w (placing v)))
-          × Sound (remains (searchOf kind) (arcs rows) (length rows) w (placing v))
+      go : T (offeredWithout (searchOf kind) (arcs rows) (length rows) kept w (length w) v) ⊎ (T (offeredWithout (searchOf kind) (arcs rows) (length rows) kept w (length w) v) → ⊥)
+          → (grown (holding kind mark rows barred w) v ≡ holding kind mark rows barred (remains (searchOf kind) (arcs rows) (length rows) kept w (placing v)))
+          × Sound (remains (searchOf kind) (arcs rows) (length rows) kept w (placing v))
       go (inl t) =
-          let e = cond-yes (offered (searchOf kind) (arcs rows) (length rows) w (length w) v) (w ++ v ∷ []) w t in
-          (grown-offered w sound v t ∙ ap (λ (x : List ℕ). holding kind mark rows x) (sym e), subst (λ (x : List ℕ). Sound x) (sym e) (sound-grown w sound v t))
+          let e = cond-yes (offeredWithout (searchOf kind) (arcs rows) (length rows) kept w (length w) v) (w ++ v ∷ []) w t in
+          (grown-offered w sound v t ∙ ap (λ (x : List ℕ). holding kind mark rows barred x) (sym e), subst (λ (x : List ℕ). Sound x) (sym e) (sound-grown w sound v t))
       go (inr out) =
-          let e = cond-no (offered (searchOf kind) (arcs rows) (length rows) w (length w) v) (w ++ v ∷ []) w out in
-          (grown-kept w sound v out ∙ ap (λ (x : List ℕ). holding kind mark rows x) (sym e), subst (λ (x : List ℕ). Sound x) (sym e) sound)
+          let e = cond-no (offeredWithout (searchOf kind) (arcs rows) (length rows) kept w (length w) v) (w ++ v ∷ []) w out in
+          (grown-kept w sound v out ∙ ap (λ (x : List ℕ). holding kind mark rows barred x) (sym e), subst (λ (x : List ℕ). Sound x) (sym e) sound)
 
-  pub shrunk-holding : (w : List ℕ) → Sound w → (shrunk (holding kind mark rows w) ≡ holding kind mark rows (front w)) × Sound (front w)
+  pub shrunk-holding : (w : List ℕ) → Sound w → (shrunk (holding kind mark rows barred w) ≡ holding kind mark rows barred (front w)) × Sound (front w)
   unfolding front
   shrunk-holding [] sound = (shrunk-nothing, sound)
   shrunk-holding (y ∷ ys) sound = (
-    ap (λ (x : List ℕ). shrunk (holding kind mark rows x)) split ∙ shrunk-before u last whole ∙ ap (λ (x : List ℕ). holding kind mark rows x) ends,
+    ap (λ (x : List ℕ). shrunk (holding kind mark rows barred x)) split ∙ shrunk-before u last whole ∙ ap (λ (x : List ℕ). holding kind mark rows barred x) ends,
     subst (λ (x : List ℕ). Sound x) ends (sound-before u last whole),
   )
     where

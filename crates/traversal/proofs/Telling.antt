@@ -5,13 +5,14 @@
 --   turned-able, tests-turned        the two turned round
 -- Assumes nothing.
 use Prim.Native.Nat.{ℕ}
-use mathlib.Core.Path.{_≡_, sym, ap, ap₂, subst}
-use mathlib.Core.Bool.{Bool, not, or-comm}
+use mathlib.Core.Path.{_≡_, sym, ap, ap₂, _∙_, subst}
+use mathlib.Core.Bool.{Bool, not, _||_, or-comm}
 use mathlib.Core.Logic.{_⊎_, inl, inr, ⊎-elim}
 use mathlib.Core.List.{List, [], _∷_}
 use mathlib.Core.Option.{Option, none, some}
 use native.Mathlib.Omega.{arith}
 use lib.Dec.{leb, leb→le, nleb→lt, not-T, T-not}
+use Rattle.bitset.specs.Word.{member}
 use Rattle.bitset.proofs.Tests.{or-inl, or-inr, or-out, not-not}
 use Rattle.searches.specs.Ordering.{placed}
 use Rattle.searches.specs.Answer.{firstRefusal, Accepts, Refuses}
@@ -39,8 +40,10 @@ module _ (t : Traversal) (u v : ℕ) where
     formed = not-not (wellFormed t) (not-T (not (wellFormed t)) (a .0));
     first-vertex = nleb→lt (t .n) u (not-T (leb (t .n) u) (λ x. a .1 .0 (or-inl (leb (t .n) u) (leb (t .n) v) x)));
     second-vertex = nleb→lt (t .n) v (not-T (leb (t .n) v) (λ x. a .1 .0 (or-inr (leb (t .n) u) (leb (t .n) v) x)));
-    first-unplaced = λ x. a .1 .1 .0 (or-inl (placed (walk t) (t .k) u) (placed (walk t) (t .k) v) x);
-    second-unplaced = λ x. a .1 .1 .0 (or-inr (placed (walk t) (t .k) u) (placed (walk t) (t .k) v) x);
+    first-unbarred = λ x. a .1 .1 .0 (or-inl (member (t .barred) u) (member (t .barred) v) x);
+    second-unbarred = λ x. a .1 .1 .0 (or-inr (member (t .barred) u) (member (t .barred) v) x);
+    first-unplaced = λ x. a .1 .1 .1 .0 (or-inl (placed (walk t) (t .k) u) (placed (walk t) (t .k) v) x);
+    second-unplaced = λ x. a .1 .1 .1 .0 (or-inr (placed (walk t) (t .k) u) (placed (walk t) (t .k) v) x);
   }
 
   comparable-in : Comparable t u v → Accepts tests
@@ -50,7 +53,10 @@ module _ (t : Traversal) (u v : ℕ) where
     (
       λ x. ⊎-elim (λ h. absurd (omega (arith, leb→le (t .n) u h, able .first-vertex))) (λ h. absurd (omega (arith, leb→le (t .n) v h, able .second-vertex)))
           (or-out (leb (t .n) u) (leb (t .n) v) x),
-      (λ x. ⊎-elim (able .first-unplaced) (able .second-unplaced) (or-out (placed (walk t) (t .k) u) (placed (walk t) (t .k) v) x), tt),
+      (
+        λ x. ⊎-elim (able .first-unbarred) (able .second-unbarred) (or-out (member (t .barred) u) (member (t .barred) v) x),
+        (λ x. ⊎-elim (able .first-unplaced) (able .second-unplaced) (or-out (placed (walk t) (t .k) u) (placed (walk t) (t .k) v) x), tt),
+      ),
     ),
   )
 
@@ -80,6 +86,8 @@ module _ (t : Traversal) (u v : ℕ) where
     formed = able .formed;
     first-vertex = able .second-vertex;
     second-vertex = able .first-vertex;
+    first-unbarred = able .second-unbarred;
+    second-unbarred = able .first-unbarred;
     first-unplaced = able .second-unplaced;
     second-unplaced = able .first-unplaced;
   }
@@ -87,5 +95,7 @@ module _ (t : Traversal) (u v : ℕ) where
   pub tests-turned : compareTests t u v ≡ compareTests t v u
   unfolding compareTests
   tests-turned =
-      ap₂ (λ (outside taken : Bool). (13, not (wellFormed t)) ∷ (8, outside) ∷ (15, taken) ∷ []) (or-comm (leb (t .n) u) (leb (t .n) v))
-      (or-comm (placed (walk t) (t .k) u) (placed (walk t) (t .k) v))
+      ap₂ (λ (outside taken : Bool). (13, not (wellFormed t)) ∷ (8, outside) ∷ (24, member (t .barred) u || member (t .barred) v) ∷ (15, taken) ∷ [])
+      (or-comm (leb (t .n) u) (leb (t .n) v)) (or-comm (placed (walk t) (t .k) u) (placed (walk t) (t .k) v))
+      ∙ ap (λ (named : Bool). (13, not (wellFormed t)) ∷ (8, leb (t .n) v || leb (t .n) u) ∷ (24, named) ∷ (15, placed (walk t) (t .k) v || placed (walk t) (t .k) u) ∷ [])
+      (or-comm (member (t .barred) u) (member (t .barred) v))

@@ -1,7 +1,7 @@
 -- Two unplaced vertices of an open walk compared: what is refused, and the answer for every state and every two numbers.
---   compareTests t u v              what is refused: numbers and tests in 02's order, each on both vertices       [02: K6]
+--   compareTests t u v              what is refused: numbers and tests in 02's order, each on both vertices       [02: K6, K8]
 --   Comparable t u v                what is not refused, condition by condition
---   stance t u v                    how u's label stands to v's after the walk                                    [02: K6]
+--   stance t u v                    how u's label stands to v's after the walk, in the graph without the barred   [02: K6, K8]
 --   Report                          told x: the answer x; refused r: the refusal with number r
 --   reported refusal x              the refusal where there is one, else the answer x
 --   compareAnswer t u v             what is answered                                                              [02: K6]
@@ -11,11 +11,11 @@ use mathlib.Core.Bool.{Bool, not, _||_}
 use mathlib.Core.List.{List, [], _∷_}
 use mathlib.Core.Option.{Option, none, some}
 use lib.Dec.{T, leb}
+use Rattle.bitset.specs.Word.{member}
 use Rattle.searches.specs.Kind.{searchOf}
 use Rattle.searches.specs.Ordering.{arcs, placed}
-use Rattle.searches.specs.Label.{label}
-use Rattle.searches.specs.Comparison.{compared}
-use Rattle.searches.specs.Answer.{firstRefusal, number}
+use Rattle.searches.specs.Without.{comparedWithout}
+use Rattle.searches.specs.Answer.{firstRefusal, unbarred, number}
 use Rattle.searches.specs.declared.Comparison.{Comparison}
 use Rattle.traversal.specs.declared.Standing.{Standing}
 use Rattle.traversal.specs.declared.Traversal.{Traversal}
@@ -26,6 +26,7 @@ module _ (t : Traversal) (u v : ℕ) where
   compareTests =
       (13, not (wellFormed t))
       ∷ (8, leb (t .n) u || leb (t .n) v)
+      ∷ (24, member (t .barred) u || member (t .barred) v)
       ∷ (15, placed (walk t) (t .k) u || placed (walk t) (t .k) v)
       ∷ []
 
@@ -35,12 +36,15 @@ module _ (t : Traversal) (u v : ℕ) where
     -- both are points of the plan
     pub first-vertex : u < t .n
     pub second-vertex : v < t .n
+    -- neither is barred
+    pub first-unbarred : T (member (t .barred) u) → ⊥
+    pub second-unbarred : T (member (t .barred) v) → ⊥
     -- and neither is placed
     pub first-unplaced : T (placed (walk t) (t .k) u) → ⊥
     pub second-unplaced : T (placed (walk t) (t .k) v) → ⊥
 
   unfoldable pub stance : Comparison
-  stance = compared (searchOf (t .kind .0)) (t .k) (label (arcs (plan t)) (walk t) u) (label (arcs (plan t)) (walk t) v)
+  stance = comparedWithout (searchOf (t .kind .0)) (arcs (plan t)) (t .n) (unbarred (t .barred)) (walk t) (t .k) u v
 
 pub data Report : Type 0 where
   told : Comparison → Report

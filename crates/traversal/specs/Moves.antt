@@ -2,10 +2,10 @@
 --   Move                          placing v, or taking back
 --   moved t m, after t moves      the open walk that a call hands back; that a list of calls does, refused ones among them
 --   front w                       w without its last vertex
---   remains s arc n w m           what is left of w after one call, the call refused or not
---   remaining s arc n w moves     of w and what is placed behind it, the vertices not taken back, in order; a placing of a vertex
+--   remains s arc n kept w m      what is left of w after one call, the call refused or not, where only the kept vertices are in service
+--   remaining s arc n kept w moves   of w and what is placed behind it, the vertices not taken back, in order; a placing of a vertex
 --                                 that is not offered adds none
---   holding kind mark rows w      the open walk of this kind and mark that has these rows, holds w, and is 0 behind both
+--   holding kind mark rows barred w   the open walk of this kind and mark that has these rows and barred vertices, holds w, and is 0 behind both
 --   lastOffered t b               the offered vertex that stands last in the tie-break b
 --   following m t b               the open walk after m placings of that vertex
 use Prim.Native.Nat.{ℕ, zero, suc, _-_}
@@ -16,7 +16,7 @@ use Rattle.bitset.specs.Below.{lastBelow}
 use Rattle.bitset.specs.Word.{member}
 use Rattle.searches.specs.Kind.{Search}
 use Rattle.searches.specs.Ordering.{at}
-use Rattle.searches.specs.Run.{offered}
+use Rattle.searches.specs.Without.{offeredWithout}
 use Rattle.searches.specs.declared.Mark.{Mark}
 use Rattle.traversal.specs.declared.Traversal.{Traversal}
 use Rattle.traversal.specs.State.{state, offeredSet, grown, shrunk}
@@ -36,17 +36,18 @@ after t (m ∷ moves) = after (moved t m) moves
 unfoldable pub front : List ℕ → List ℕ
 front w = take (length w - 1) w
 
-module _ (s : Search) (arc : ℕ → ℕ → Bool) (n : ℕ) where
+module _ (s : Search) (arc : ℕ → ℕ → Bool) (n : ℕ) (kept : ℕ → Bool) where
   unfoldable pub remains : List ℕ → Move → List ℕ
-  remains w (placing v) = cond (offered s arc n w (length w) v) (w ++ v ∷ []) w
+  remains w (placing v) = cond (offeredWithout s arc n kept w (length w) v) (w ++ v ∷ []) w
   remains w takingBack = front w
 
   unfoldable pub remaining : List ℕ → List Move → List ℕ
   remaining w [] = w
   remaining w (m ∷ moves) = remaining (remains w m) moves
 
-unfoldable pub holding : ℕ → Mark → List ℕ → List ℕ → Traversal
-holding kind mark rows w = state (record { 0 = kind }) mark (length rows) (rows ++ replicate (64 - length rows) 0) (length w) (w ++ replicate (64 - length w) 0)
+unfoldable pub holding : ℕ → Mark → List ℕ → ℕ → List ℕ → Traversal
+holding kind mark rows barred w =
+    state (record { 0 = kind }) mark (length rows) (rows ++ replicate (64 - length rows) 0) barred (length w) (w ++ replicate (64 - length w) 0)
 
 unfoldable pub lastOffered : Traversal → List ℕ → ℕ
 lastOffered t b = at b (lastBelow (length b) (λ q. member (offeredSet t) (at b q)))

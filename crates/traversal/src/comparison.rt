@@ -11,30 +11,35 @@ ghost use lib.ListN.{length};
 ghost use Rattle.traversal.specs.State.{state};
 ghost use Rattle.traversal.specs.Compare.{compareAnswer, reportOf};
 
-// The first of refusals 13, 8 and 15 that applies to either vertex, else how `first` stands to `second`.
+// The first of refusals 13, 8, 24 and 15, in this order, that applies to either vertex, else how `first` stands to `second`.
 pub fn compare(
     kind: Kind,
     mark: Mark,
     n: usize,
     rows: &[u64],
+    barred: u64,
     k: usize,
     ordering: &[u8],
     first: Vertex,
     second: Vertex,
 ) -> Standing
     requires { ⌜ (length (now rows) ≡ 64) × (length (now ordering) ≡ 64) ⌝ }
-    ensures { λ r. ⌜ reportOf r ≡ compareAnswer (state kind mark n (now (rows .entry)) k (now (ordering .entry))) (first .0) (second .0) ⌝ }
+    ensures { λ r. ⌜ reportOf r ≡ compareAnswer (state kind mark n (now (rows .entry)) barred k (now (ordering .entry))) (first .0) (second .0) ⌝ }
 {
-    let moment = survey::survey(kind, mark, n, rows, k, ordering);
+    let moment = survey::survey(kind, mark, n, rows, barred, k, ordering);
     let u = first.0 as usize;
     let v = second.0 as usize;
     let outside = (n <= u) | (n <= v);
+    let out_of_service = bitset::contains(barred, u) | bitset::contains(barred, v);
     let taken = !bitset::contains(moment.free, u) | !bitset::contains(moment.free, v);
     if !moment.passes {
         return Standing::Refused(Refusal::MalformedTraversal);
     }
     if outside {
         return Standing::Refused(Refusal::VertexOutOfRange);
+    }
+    if out_of_service {
+        return Standing::Refused(Refusal::BarredVertex);
     }
     if taken {
         return Standing::Refused(Refusal::AlreadyPlaced);

@@ -1,4 +1,4 @@
-// The open walk: a graph with its mark, a kind of search, and an ordering that grows and shrinks by one vertex. It is a state by value: each call takes it,
+// The open walk: a graph with its mark and its barred vertices, a kind of search, and an ordering that grows and shrinks by one vertex. It is a state by value: each call takes it,
 // and hands it back with the answer. Its fields may hold anything; what is not well formed is refused, and handed back as it came.
 mod comparison;
 mod refusals;
@@ -11,16 +11,17 @@ use searches::Outcome;
 use searches::Refusal;
 use searches::Vertex;
 ghost use mathlib.Core.Path.{_≡_};
-ghost use Rattle.searches.specs.Answer.{openAnswer, refusalOf};
+ghost use Rattle.searches.specs.Answer.{openBarring, refusalOf};
 ghost use Rattle.traversal.specs.State.{opened, offeredAnswer, offeredSet, placeAnswer, grown, takeBackAnswer, shrunk};
 ghost use Rattle.traversal.specs.Compare.{compareAnswer, reportOf};
 
-// An open walk: `n` rows of a graph, and the first `k` entries of an ordering.
+// An open walk: `n` rows of a graph, the set of its barred vertices, and the first `k` entries of an ordering.
 pub struct Traversal {
     pub kind: Kind,
     pub mark: Mark,
     pub n: usize,
     pub rows: [u64; 64],
+    pub barred: u64,
     pub k: usize,
     pub ordering: [u8; 64],
 }
@@ -51,15 +52,15 @@ pub struct Compared {
 }
 
 impl Traversal {
-    // An open walk with nothing placed, on its own copy of `rows`. Refused (1 to 5; 5 for two-way graphs only), the two-way one of kind 0 with all
-    // else 0. Alters no list.
-    pub fn open(kind: Kind, mark: Mark, rows: &[u64]) -> Stepped
-        ensures state { λ r. ⌜ r .traversal ≡ opened (kind .0) mark (now (rows .entry)) ⌝ }
-        ensures answer { λ r. ⌜ refusalOf (r .outcome) ≡ openAnswer (kind .0) mark (now (rows .entry)) ⌝ }
+    // An open walk with nothing placed, on its own copy of `rows`, without the vertices of `barred`. Refused (1 to 5, 23; 5 for two-way graphs only), the
+    // two-way one of kind 0 with all else 0. Alters no list.
+    pub fn open(kind: Kind, mark: Mark, rows: &[u64], barred: u64) -> Stepped
+        ensures state { λ r. ⌜ r .traversal ≡ opened (kind .0) mark (now (rows .entry)) barred ⌝ }
+        ensures answer { λ r. ⌜ refusalOf (r .outcome) ≡ openBarring (kind .0) mark (now (rows .entry)) barred ⌝ }
     {
         let mut copy = [0u64; 64];
         let ordering = [0u8; 64];
-        let checked = checks::open_refusal(kind, mark, rows);
+        let checked = checks::open_refusal(kind, mark, rows, barred);
         if let Outcome::Refused(refusal) = checked {
             return Stepped {
                 traversal: Traversal {
@@ -67,6 +68,7 @@ impl Traversal {
                     mark: Mark::TwoWay,
                     n: 0,
                     rows: copy,
+                    barred: 0,
                     k: 0,
                     ordering,
                 },
@@ -80,6 +82,7 @@ impl Traversal {
                 mark,
                 n: rows.len(),
                 rows: copy,
+                barred,
                 k: 0,
                 ordering,
             },
@@ -87,7 +90,7 @@ impl Traversal {
         }
     }
 
-    // The vertices that may be placed next, none where all are placed or the call is refused (13). The open walk comes back as it was.
+    // The vertices that may be placed next, none where all that are not barred are placed or the call is refused (13). The open walk comes back as it was.
     pub fn offered(self) -> Offering
         ensures state { λ r. ⌜ r .traversal ≡ self ⌝ }
         ensures set { λ r. ⌜ r .set ≡ offeredSet self ⌝ }
@@ -98,7 +101,7 @@ impl Traversal {
         let n = self.n;
         let rows = self.rows;
         let ordering = self.ordering;
-        let moment = survey::survey(kind, mark, n, &rows[..], self.k, &ordering[..]);
+        let moment = survey::survey(kind, mark, n, &rows[..], self.barred, self.k, &ordering[..]);
         if !moment.passes {
             return Offering {
                 traversal: self,
@@ -117,8 +120,8 @@ impl Traversal {
         }
     }
 
-    // Whether `first` is ahead of `second`, behind it, level with it or neither, by the labels that the two have now. Refused (13, 8, 15; 8 and 15 for
-    // either vertex), nothing is told. The open walk comes back as it was.
+    // Whether `first` is ahead of `second`, behind it, level with it or neither, by the labels that the two have now. Refused (13, 8, 24, 15; 8, 24
+    // and 15 for either vertex), nothing is told. The open walk comes back as it was.
     pub fn compare(self, first: Vertex, second: Vertex) -> Compared
         ensures state { λ r. ⌜ r .traversal ≡ self ⌝ }
         ensures answer { λ r. ⌜ reportOf (r .standing) ≡ compareAnswer self (first .0) (second .0) ⌝ }
@@ -133,6 +136,7 @@ impl Traversal {
             mark,
             n,
             &rows[..],
+            self.barred,
             self.k,
             &ordering[..],
             first,
@@ -144,7 +148,7 @@ impl Traversal {
         }
     }
 
-    // The open walk with `vertex` placed behind the others. Refused (13, 14, 8, 15, 16), it comes back as it was.
+    // The open walk with `vertex` placed behind the others. Refused (13, 14, 8, 24, 15, 16), it comes back as it was.
     pub fn place(self, vertex: Vertex) -> Stepped
         ensures state { λ r. ⌜ r .traversal ≡ grown self (vertex .0) ⌝ }
         ensures answer { λ r. ⌜ refusalOf (r .outcome) ≡ placeAnswer self (vertex .0) ⌝ }
@@ -153,9 +157,19 @@ impl Traversal {
         let mark = self.mark;
         let n = self.n;
         let rows = self.rows;
+        let barred = self.barred;
         let k = self.k;
         let mut ordering = self.ordering;
-        let checked = refusals::place_refusal(kind, mark, n, &rows[..], k, &ordering[..], vertex);
+        let checked = refusals::place_refusal(
+            kind,
+            mark,
+            n,
+            &rows[..],
+            barred,
+            k,
+            &ordering[..],
+            vertex,
+        );
         if let Outcome::Refused(refusal) = checked {
             return Stepped {
                 traversal: self,
@@ -170,6 +184,7 @@ impl Traversal {
                 mark,
                 n,
                 rows,
+                barred,
                 k: count,
                 ordering,
             },
@@ -186,9 +201,18 @@ impl Traversal {
         let mark = self.mark;
         let n = self.n;
         let rows = self.rows;
+        let barred = self.barred;
         let k = self.k;
         let mut ordering = self.ordering;
-        let checked = refusals::take_back_refusal(kind, mark, n, &rows[..], k, &ordering[..]);
+        let checked = refusals::take_back_refusal(
+            kind,
+            mark,
+            n,
+            &rows[..],
+            barred,
+            k,
+            &ordering[..],
+        );
         if let Outcome::Refused(refusal) = checked {
             return Stepped {
                 traversal: self,
@@ -202,6 +226,7 @@ impl Traversal {
                 mark,
                 n,
                 rows,
+                barred,
                 k: k - 1,
                 ordering,
             },

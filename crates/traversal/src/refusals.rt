@@ -10,29 +10,33 @@ ghost use lib.ListN.{length};
 ghost use Rattle.searches.specs.Answer.{refusalOf};
 ghost use Rattle.traversal.specs.State.{state, placeAnswer, takeBackAnswer};
 
-// The first of refusals 13, 14, 8, 15 and 16 that applies to placing `vertex`, else `Done`.
+// The first of refusals 13, 14, 8, 24, 15 and 16, in this order, that applies to placing `vertex`, else `Done`.
 pub fn place_refusal(
     kind: Kind,
     mark: Mark,
     n: usize,
     rows: &[u64],
+    barred: u64,
     k: usize,
     ordering: &[u8],
     vertex: Vertex,
 ) -> Outcome
     requires { ⌜ (length (now rows) ≡ 64) × (length (now ordering) ≡ 64) ⌝ }
-    ensures { λ r. ⌜ refusalOf r ≡ placeAnswer (state kind mark n (now (rows .entry)) k (now (ordering .entry))) (vertex .0) ⌝ }
+    ensures { λ r. ⌜ refusalOf r ≡ placeAnswer (state kind mark n (now (rows .entry)) barred k (now (ordering .entry))) (vertex .0) ⌝ }
 {
-    let moment = survey::survey(kind, mark, n, rows, k, ordering);
+    let moment = survey::survey(kind, mark, n, rows, barred, k, ordering);
     let v = vertex.0 as usize;
     if !moment.passes {
         return Outcome::Refused(Refusal::MalformedTraversal);
     }
-    if k == n {
+    if moment.free == 0 {
         return Outcome::Refused(Refusal::AllPlaced);
     }
     if n <= v {
         return Outcome::Refused(Refusal::VertexOutOfRange);
+    }
+    if bitset::contains(barred, v) {
+        return Outcome::Refused(Refusal::BarredVertex);
     }
     if !bitset::contains(moment.free, v) {
         return Outcome::Refused(Refusal::AlreadyPlaced);
@@ -52,13 +56,14 @@ pub fn take_back_refusal(
     mark: Mark,
     n: usize,
     rows: &[u64],
+    barred: u64,
     k: usize,
     ordering: &[u8],
 ) -> Outcome
     requires { ⌜ (length (now rows) ≡ 64) × (length (now ordering) ≡ 64) ⌝ }
-    ensures { λ r. ⌜ refusalOf r ≡ takeBackAnswer (state kind mark n (now (rows .entry)) k (now (ordering .entry))) ⌝ }
+    ensures { λ r. ⌜ refusalOf r ≡ takeBackAnswer (state kind mark n (now (rows .entry)) barred k (now (ordering .entry))) ⌝ }
 {
-    let moment = survey::survey(kind, mark, n, rows, k, ordering);
+    let moment = survey::survey(kind, mark, n, rows, barred, k, ordering);
     if !moment.passes {
         return Outcome::Refused(Refusal::MalformedTraversal);
     }

@@ -32,13 +32,13 @@ fn answer(outcome: Outcome) -> u64 {
 }
 
 fn judge(kind: u8, rows: &[u64], walk: &[u8]) {
-    show(verdict(engine::judge(Kind(kind), Mark::TwoWay, rows, walk)));
+    show(verdict(engine::judge(Kind(kind), Mark::TwoWay, rows, 0, walk)));
 }
 
 // Carries on from the end of a walk of 64 points.
 fn carry_on(kind: u8, rows: &[u64], walk: &[u8]) {
     let mut output = notation::all_points();
-    show(answer(engine::carry_on(Kind(kind), Mark::TwoWay, rows, walk, &mut output, 64)));
+    show(answer(engine::carry_on(Kind(kind), Mark::TwoWay, rows, 0, walk, &mut output, 64)));
     show(check::same(&output, walk) as u64);
 }
 

@@ -1,14 +1,21 @@
 -- `charge::charge_refusal` meets its contract: judge's refusal, or after its verdict the first of the tests behind it.
 -- Assumes nothing.
-use mathlib.Core.Path.{sym, ap, _∙_}
+use mathlib.Core.Path.{_≡_, sym, ap, _∙_}
 use denote.Ref.{now}
 use lib.ListN.{length}
 use borrow.Author.Needs.{needs}
-use Rattle.searches.specs.Answer.{isPass, refusalOf, verdictOf}
+use Rattle.searches.specs.Answer.{isPass, judgeAnswer, refusalOf, verdictOf}
+use Rattle.searches.proofs.NothingBarred.{judge-none}
 use Rattle.checks.proofs.AfterJudge.{judged-refused, passed-decided, failed-decided}
 use Rattle.charge.specs.Charge.{testsAfterJudge, chargeTests}
 use Rattle.charge.proofs.charge_refusal.Statement.{statement}
 use Rattle.charge.proofs.charge_refusal.Tie as tie
+
+-- nothing is barred, so the answer is judge's on the whole graph
+judged : (c : tie.After-judge)
+    → let a = c .before .before .before .before .args in
+    verdictOf (c .judge .result) ≡ judgeAnswer (a .kind .0) (a .mark) (now (a .rows)) (now (a .ordering))
+judged c = let a = c .before .before .before .before .args in c .judge .ensures ∙ judge-none (a .kind .0) (a .mark) (now (a .rows)) (now (a .ordering))
 
 judge-requires : tie.Need-judge-requires
 judge-requires c κs = search needs
@@ -34,7 +41,7 @@ returns c =
     let a = c .before .before .before .before .before .before .before .args in
     c .refusal-after-judge .ensures
     ∙ passed-decided (a .kind .0) (a .mark) (now (a .rows)) (now (a .ordering)) (testsAfterJudge (length (now (a .rows))) (now (a .minutes)) (a .rate))
-    (sym (ap verdictOf (c .before .enum-told .given .1)) ∙ c .before .before .before .judge .ensures)
+    (sym (ap verdictOf (c .before .enum-told .given .1)) ∙ judged (c .before .before .before))
 
 returns-2 : tie.Need-returns-2
 unfolding verdictOf isPass chargeTests
@@ -42,14 +49,14 @@ returns-2 c =
     let a = c .before .before .before .before .before .before .before .args in
     c .refusal-after-judge2 .ensures
     ∙ failed-decided (a .kind .0) (a .mark) (now (a .rows)) (now (a .ordering)) (testsAfterJudge (length (now (a .rows))) (now (a .minutes)) (a .rate))
-    (sym (ap verdictOf (c .before .enum-told2 .given .1)) ∙ c .before .before .before .judge .ensures)
+    (sym (ap verdictOf (c .before .enum-told2 .given .1)) ∙ judged (c .before .before .before))
 
 returns-3 : tie.Need-returns-3
 unfolding verdictOf refusalOf chargeTests
 returns-3 c =
     let a = c .before .before .before .before .before .before .before .args in
     judged-refused (a .kind .0) (a .mark) (now (a .rows)) (now (a .ordering)) (testsAfterJudge (length (now (a .rows))) (now (a .minutes)) (a .rate)) _
-    (sym (ap verdictOf (c .before .judged .given .1)) ∙ c .before .before .before .judge .ensures)
+    (sym (ap verdictOf (c .before .judged .given .1)) ∙ judged (c .before .before .before))
 
 pub charge-refusal-spec : {M : Type 1} → statement M
 charge-refusal-spec =

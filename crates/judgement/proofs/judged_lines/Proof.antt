@@ -6,6 +6,8 @@ use denote.Ref.{now}
 use native.Mathlib.Omega.{arith}
 use lib.ListN.{length}
 use lib.Seq.{sets, length-sets}
+use Rattle.searches.specs.declared.Mark.{Mark}
+use Rattle.searches.proofs.NothingBarred.{judge-none}
 use Rattle.judgement.specs.Judged.{judgedLines}
 use Rattle.judgement.proofs.Writing.{Judging, judging-start, judging-room, judging-next}
 use Rattle.judgement.proofs.judged_lines.Statement.{statement}
@@ -42,7 +44,7 @@ loop-again c =
     let l = j .before .before in
     let s = l .before .before .before .before in
     judging-next (now (s .args .output)) (now (s .args .rows)) (now (s .args .ordering)) (e .judged-line .last .0) (l .loop .inv) (j .before .loop-test .taken)
-    (j .judge .ensures) (e .judged-line .ensures .0) (e .judged-line .ensures .1)
+    (j .judge .ensures ∙ judge-none (l .loop .kind) Mark.TwoWay (now (s .args .rows)) (now (s .args .ordering))) (e .judged-line .ensures .0) (e .judged-line .ensures .1)
 
 same-length : tie.Need-same-length Inv-loop μ-loop
 same-length c =

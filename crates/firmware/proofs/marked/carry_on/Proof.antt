@@ -24,7 +24,7 @@ returns : tie.Need-returns
 unfolding refusalOf
 returns c =
     let a = c .before .before .before .before .before .before .before .before .args in
-    let unread = carryOn-unread (a .kind) (now (a .plan)) (a .mark) (now (a .preference)) (now (a .output)) (a .k)
+    let unread = carryOn-unread (a .kind) (now (a .plan)) (a .mark) (a .barred) (now (a .preference)) (now (a .output)) (a .k)
     (sym (ap refusalOf (c .before .before .checked .given .1)) ∙ c .before .before .before .before .refusal .ensures) in
     (c .number .ensures ∙ unread .0, unread .1)
 
@@ -62,7 +62,7 @@ same-length c = search needs
 returns-2 : tie.Need-returns-2
 returns-2 c =
     let a = c .before .before .before .before .before .before .before .before .before .before .before .before .before .before .args in
-    carryOn-read (a .kind) (now (a .plan)) (a .mark) (now (a .preference)) (now (a .output)) (a .k)
+    carryOn-read (a .kind) (now (a .plan)) (a .mark) (a .barred) (now (a .preference)) (now (a .output)) (a .k)
     (accepted (c .before .before .before .before .before .before .before .before))
     (c .before .before .before .before .before .before .decode .ensures)
     (c .before .before .before .carry-on .ensures .0)

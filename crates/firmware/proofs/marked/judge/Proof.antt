@@ -24,7 +24,7 @@ unfolding refusalOf
 returns c =
     let a = c .before .before .before .before .before .before .before .args in
     c .number .ensures
-    ∙ judge-unread (a .kind) (now (a .plan)) (a .mark) (now (a .walk)) (sym (ap refusalOf (c .before .before .checked .given .1)) ∙ c .before .before .before .before .refusal .ensures)
+    ∙ judge-unread (a .kind) (now (a .plan)) (a .mark) (a .barred) (now (a .walk)) (sym (ap refusalOf (c .before .before .checked .given .1)) ∙ c .before .before .before .before .refusal .ensures)
 
 enum-told : tie.Need-enum-told
 enum-told c = c .match .keys2
@@ -57,7 +57,7 @@ code-of-requires c κs = tt
 returns-2 : tie.Need-returns-2
 returns-2 c =
     let a = c .before .before .before .before .before .before .before .before .before .before .args in
-    judge-read (a .kind) (now (a .plan)) (a .mark) (now (a .walk))
+    judge-read (a .kind) (now (a .plan)) (a .mark) (a .barred) (now (a .walk))
     (accepted (c .before .before .before .before .before))
     (c .before .before .before .decode .ensures)
     (c .before .judge .ensures)

@@ -7,7 +7,7 @@ use mathlib.Core.Option.{none}
 use denote.Ref.{now}
 use borrow.Author.Needs.{needs}
 use lib.ListN.{length, replicate}
-use Rattle.searches.specs.Answer.{refusalOf, openTests, firstRefusal, openAnswer}
+use Rattle.searches.specs.Answer.{refusalOf, openTestsBarring, firstRefusal, openBarring}
 use Rattle.checks.proofs.Tried.{rows-fit}
 use Rattle.traversal.specs.State.{state, nothingOpen, opened}
 use Rattle.bitset.proofs.Copying.{behind-zeros}
@@ -22,7 +22,7 @@ enum-known-checked : tie.Need-enum-known-checked
 enum-known-checked c = search needs
 
 returns : tie.Need-returns
-unfolding refusalOf openAnswer opened nothingOpen
+unfolding refusalOf openBarring opened nothingOpen
 returns c =
     let e = sym (ap refusalOf (c .before .checked .given .1)) ∙ c .before .before .before .open-refusal .ensures in
     (kept-handed _ nothingOpen e, e)
@@ -32,20 +32,20 @@ enum-told c = search needs
 
 accepted : (c : tie.After-enum-told)
     → let a = c .before .before .before .before .args in
-    none ≡ firstRefusal (openTests (a .kind .0) (a .mark) (now (a .rows)))
+    none ≡ firstRefusal (openTestsBarring (a .kind .0) (a .mark) (now (a .rows)) (a .barred))
 unfolding refusalOf
 accepted c = sym (ap refusalOf (c .enum-told .given .1)) ∙ c .before .before .open-refusal .ensures
 
 copy-requires : tie.Need-copy-requires
-copy-requires c κs = (rows-fit _ _ _ (accepted (c .before)), refl)
+copy-requires c κs = (rows-fit _ _ _ _ (accepted (c .before)), refl)
 
 returns-2 : tie.Need-returns-2
-unfolding refusalOf openAnswer opened
+unfolding refusalOf openBarring opened
 returns-2 c =
     let told = c .before .before in
     let a = told .before .before .before .before .args in
     let rows = now (a .rows) in (
-      ap (λ (copy : List ℕ). state (a .kind) (a .mark) (length rows) copy 0 (replicate 64 0)) (c .copy2 .ensures ∙ ap (λ (x : List ℕ). rows ++ x) (behind-zeros (length rows)))
+      ap (λ (copy : List ℕ). state (a .kind) (a .mark) (length rows) copy (a .barred) 0 (replicate 64 0)) (c .copy2 .ensures ∙ ap (λ (x : List ℕ). rows ++ x) (behind-zeros (length rows)))
           ∙ next-handed _ nothingOpen (accepted told),
       accepted told,
     )

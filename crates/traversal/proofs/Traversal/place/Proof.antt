@@ -3,12 +3,17 @@
 use mathlib.Core.Path.{_≡_, sym, ap, _∙_}
 use mathlib.Core.Option.{none}
 use native.Mathlib.Omega.{arith}
+use lib.ListN.{length}
 use borrow.Author.Needs.{needs}
 use Rattle.searches.specs.Answer.{refusalOf}
 use Rattle.traversal.specs.State.{placeAnswer, grown}
 use Rattle.traversal.proofs.Answered.{next-handed, kept-handed, place-room}
 use Rattle.traversal.proofs.Traversal.place.Statement.{statement}
 use Rattle.traversal.proofs.Traversal.place.Tie as tie
+
+-- the arrays have 64 entries
+arrays : (s : tie.Start) → (length (s .args .self .rows) ≡ 64) × (length (s .args .self .ordering) ≡ 64)
+arrays s = (search needs, search needs)
 
 slice-aggregate-place-refusal : tie.Need-slice-aggregate-place-refusal
 slice-aggregate-place-refusal c = search needs
@@ -40,13 +45,15 @@ accepted c = sym (ap refusalOf (c .enum-told .given .1)) ∙ c .before .before .
 
 add-count : tie.Need-add-count
 add-count c =
-    let a = c .before .before .before .before .before .before .before .before .args in
-    omega (arith, place-room (a .self) (a .vertex .0) (accepted c))
+    let s = c .before .before .before .before .before .before .before .before in
+    let a = s .args in
+    omega (arith, place-room (a .self) (arrays s .0) (arrays s .1) (a .vertex .0) (accepted c) .1)
 
 array-write-ordering : tie.Need-array-write-ordering
 array-write-ordering c =
-    let a = c .before .before .before .before .before .before .before .before .args in
-    omega (arith, place-room (a .self) (a .vertex .0) (accepted c))
+    let s = c .before .before .before .before .before .before .before .before in
+    let a = s .args in
+    place-room (a .self) (arrays s .0) (arrays s .1) (a .vertex .0) (accepted c) .1
 
 returns-2 : tie.Need-returns-2
 unfolding refusalOf grown

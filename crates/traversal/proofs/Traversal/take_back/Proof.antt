@@ -42,8 +42,8 @@ sub-ordering c = take-back-room (c .before .before .before .before .before .befo
 array-write-ordering : tie.Need-array-write-ordering
 array-write-ordering c = omega (arith, take-back-room (c .before .before .before .before .before .before .before .before .args .self) (accepted c))
 
-sub-t15 : tie.Need-sub-t15
-sub-t15 c = take-back-room (c .before .before .before .before .before .before .before .before .args .self) (accepted c) .0
+sub-t16 : tie.Need-sub-t16
+sub-t16 c = take-back-room (c .before .before .before .before .before .before .before .before .args .self) (accepted c) .0
 
 returns-2 : tie.Need-returns-2
 unfolding refusalOf shrunk
@@ -63,5 +63,5 @@ take-back-spec =
     enum-told
     sub-ordering
     array-write-ordering
-    sub-t15
+    sub-t16
     returns-2)

@@ -17,7 +17,7 @@ use Rattle.traversal.proofs.refusals.take_back_refusal.Statement.{state
 use Rattle.traversal.proofs.refusals.take_back_refusal.Tie as tie
 
 abbrev asked : tie.Start → Traversal
-asked s = state (s .args .kind) (s .args .mark) (s .args .n) (now (s .args .rows)) (s .args .k) (now (s .args .ordering))
+asked s = state (s .args .kind) (s .args .mark) (s .args .n) (now (s .args .rows)) (s .args .barred) (s .args .k) (now (s .args .ordering))
 
 abbrev tests : tie.Start → List (ℕ × Bool)
 tests s = takeBackTests (asked s)

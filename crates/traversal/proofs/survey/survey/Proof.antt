@@ -14,7 +14,7 @@ use Rattle.traversal.proofs.survey.survey.Tie as tie
 
 -- the open walk that is asked about
 abbrev asked : tie.Start → Traversal
-asked s = state (s .args .kind) (s .args .mark) (s .args .n) (now (s .args .rows)) (s .args .k) (now (s .args .ordering))
+asked s = state (s .args .kind) (s .args .mark) (s .args .n) (now (s .args .rows)) (s .args .barred) (s .args .k) (now (s .args .ordering))
 
 no-moment-requires : tie.Need-no-moment-requires
 no-moment-requires c κs = search needs
