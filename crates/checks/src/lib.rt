@@ -3,6 +3,7 @@
 pub mod number;
 
 ghost use mathlib.Core.Path.{_≡_};
+ghost use mathlib.Core.List.{[], _∷_};
 ghost use Rattle.searches.specs.Answer.{openTests, openTestsBarring, judgeTestsBarring, listTestsBarring, firstRefusal, refusalOf};
 use searches::Kind;
 use searches::Mark;
@@ -51,6 +52,19 @@ pub fn open_refusal(kind: Kind, mark: Mark, rows: &[u64], barred: u64) -> Outcom
     Outcome::Done
 }
 
+// The first of refusals 9 and 24 that applies, else `Done`: a vertex stands twice in one list, a barred vertex is named.
+fn entries_refusal(twice: bool, out_of_service: bool) -> Outcome
+    ensures { λ r. ⌜ refusalOf r ≡ firstRefusal ((9, twice) ∷ (24, «out_of_service») ∷ []) ⌝ }
+{
+    if twice {
+        return Outcome::Refused(Refusal::RepeatedVertex);
+    }
+    if out_of_service {
+        return Outcome::Refused(Refusal::BarredVertex);
+    }
+    Outcome::Done
+}
+
 // The first of refusals 1 to 5, 23, 6, 8, 9 and 24, in this order, that applies to `ordering` on this graph, else `Done`. It alters no list.
 pub fn judge_refusal(kind: Kind, mark: Mark, rows: &[u64], barred: u64, ordering: &[u8]) -> Outcome
     ensures { λ r. ⌜ refusalOf r ≡ firstRefusal (judgeTestsBarring (kind .0) mark (now (rows .entry)) barred (now (ordering .entry))) ⌝ }
@@ -67,13 +81,9 @@ pub fn judge_refusal(kind: Kind, mark: Mark, rows: &[u64], barred: u64, ordering
     if lookup::entries::vertex_outside(ordering, length, n) {
         return Outcome::Refused(Refusal::VertexOutOfRange);
     }
-    if lookup::entries::repeated(ordering, length) {
-        return Outcome::Refused(Refusal::RepeatedVertex);
-    }
-    if lookup::entries::vertex_barred(ordering, length, barred) {
-        return Outcome::Refused(Refusal::BarredVertex);
-    }
-    Outcome::Done
+    let twice = lookup::entries::repeated(ordering, length);
+    let out_of_service = lookup::entries::vertex_barred(ordering, length, barred);
+    entries_refusal(twice, out_of_service)
 }
 
 // The first of refusals 1 to 5, 23, 6, 10, 7, 8, 9 and 24, in this order, that applies to carrying on the first `k` entries of
@@ -108,11 +118,7 @@ pub fn list_refusal(
     {
         return Outcome::Refused(Refusal::VertexOutOfRange);
     }
-    if lookup::entries::repeated(output, k) || lookup::entries::repeated(tie_break, n) {
-        return Outcome::Refused(Refusal::RepeatedVertex);
-    }
-    if lookup::entries::vertex_barred(output, k, barred) {
-        return Outcome::Refused(Refusal::BarredVertex);
-    }
-    Outcome::Done
+    let twice = lookup::entries::repeated(output, k) | lookup::entries::repeated(tie_break, n);
+    let out_of_service = lookup::entries::vertex_barred(output, k, barred);
+    entries_refusal(twice, out_of_service)
 }

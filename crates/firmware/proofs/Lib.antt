@@ -1,2 +1,3 @@
 mod Reading
 mod Unread
+pub mod NothingBarred

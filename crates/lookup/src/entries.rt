@@ -24,6 +24,9 @@ pub fn vertex_barred(list: &[u8], k: usize, barred: u64) -> bool
     requires { ⌜ k ≤ length (now list) ⌝ }
     ensures { λ r. ⌜ r ≡ barredNamed barred (now (list .entry)) k ⌝ }
 {
+    if barred == 0 {
+        return false;
+    }
     for p in 0..k {
         if bitset::contains(barred, list[p] as usize) {
             return true;

@@ -1,8 +1,9 @@
 -- The three demands, over the definitions that the functions' promises cite. Each theorem's comment says which sentence it is; the work is
 -- done in the modules that the proofs cite. Demand 1; then 2 and 3 for any graph, that is any relation `arc` on the vertices below n, of which a
 -- plan is a case, two-way or one-way; then 2 and 3 as the calls answer on kind byte, mark, rows and lists.
--- A function's contract is an equation with `judgeAnswer`, `carryOnAnswer` or `carryOnOutput`; a list that a contract does not name at exit is
--- passed as `&` and cannot change; that every call ends is part of every proof of a function.
+-- The contracts of judge and carry-on are equations with `judgeBarring`, `carryOnBarring` and `outputBarring`, for which `DemandsBarring` has the demands; with
+-- nothing barred these are `judgeAnswer`, `carryOnAnswer` and `carryOnOutput` (`NothingBarred`). A list that a contract does not name at exit is passed as `&`
+-- and cannot change; that every call ends is part of every proof of a function.
 -- Assumes nothing.
 use mathlib.Core.Path.{_≡_, sym, _∙_}
 use mathlib.Core.Logic.{_↔_}

@@ -2,7 +2,6 @@
 --   number-rises, number-below     a greater kept vertex has a greater number; all are below how many are kept
 --   name-below, name-kept, number-name, name-number, name-rises
 --   number-same                    one number, one vertex
---   name-all                       where all are kept, a name is the number
 -- Assumes nothing.
 use mathlib.Core.Path.{_≡_, refl, sym, ap, _∙_, subst}
 use mathlib.Core.Bool.{Bool, true, false, cond, _&&_}

@@ -154,13 +154,12 @@ judgeTestsBarring kind mark rows barred w =
 -- 24 is on the start: a tie-break names all vertices, and the barred ones are passed over
 unfoldable pub listTestsBarring : ℕ → Mark → List ℕ → ℕ → List ℕ → List ℕ → ℕ → List (ℕ × Bool)
 listTestsBarring kind mark rows barred t out k =
-    let n = length rows in
     openTestsBarring kind mark rows barred
-    ++ (6, ltb n k)
-    ∷ (10, ltb (length out) n)
-    ∷ (7, not (eqb (length t) n))
-    ∷ (8, vertexOutside n out k || vertexOutside n t n)
-    ∷ (9, repeated out k || repeated t n)
+    ++ (6, ltb (length rows) k)
+    ∷ (10, ltb (length out) (length rows))
+    ∷ (7, not (eqb (length t) (length rows)))
+    ∷ (8, vertexOutside (length rows) out k || vertexOutside (length rows) t (length rows))
+    ∷ (9, repeated out k || repeated t (length rows))
     ∷ (24, barredNamed barred out k)
     ∷ []
 

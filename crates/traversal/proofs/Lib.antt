@@ -5,3 +5,4 @@ pub mod Following
 pub mod Telling
 pub mod Comparing
 pub mod OpenWalk
+pub mod NothingBarred

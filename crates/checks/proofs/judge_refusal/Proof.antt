@@ -1,8 +1,8 @@
 -- `checks::judge_refusal` meets its contract: each answer is given after the tests before it were tried.
 -- Assumes nothing.
-use mathlib.Core.Path.{_≡_, sym, ap, _∙_}
+use mathlib.Core.Path.{_≡_, sym, ap, ap₂, _∙_}
 use mathlib.Core.Bool.{Bool}
-use mathlib.Core.List.{List}
+use mathlib.Core.List.{List, [], _∷_}
 use mathlib.Core.Option.{none}
 use Prim.Native.Nat.{ℕ}
 use denote.Ref.{now}
@@ -40,14 +40,6 @@ past-8 : (c : tie.Else2) → Past 8 (c .before .before .before .before .before)
 unfolding openTests openTestsBarring judgeTestsBarring
 past-8 c = tried-one (past-7 (c .before .before)) (sym (c .before .vertex-outside .ensures) ∙ c .if2 .left)
 
-past-9 : (c : tie.Else3) → Past 9 (c .before .before .before .before .before .before .before)
-unfolding openTests openTestsBarring judgeTestsBarring
-past-9 c = tried-one (past-8 (c .before .before)) (sym (c .before .repeated .ensures) ∙ c .if3 .left)
-
-past-10 : (c : tie.Else4) → Past 10 (c .before .before .before .before .before .before .before .before .before)
-unfolding openTests openTestsBarring judgeTestsBarring
-past-10 c = tried-one (past-9 (c .before .before)) (sym (c .before .vertex-barred .ensures) ∙ c .if4 .left)
-
 open-refusal-requires : tie.Need-open-refusal-requires
 open-refusal-requires c κs = tt
 
@@ -78,20 +70,21 @@ repeated-requires : tie.Need-repeated-requires
 repeated-requires c κs =
     (omega arith, entries-fit _ (rows-fit _ _ _ _ (opened (c .before .before .before))) (sym (c .before .vertex-outside .ensures) ∙ c .if2 .left))
 
-returns-4 : tie.Need-returns-4
-unfolding openTests openTestsBarring judgeTestsBarring number refusalOf
-returns-4 c = refused-here (past-8 (c .before .before)) (sym (c .before .repeated .ensures) ∙ c .if3 .taken)
-
 vertex-barred-requires : tie.Need-vertex-barred-requires
 vertex-barred-requires c κs = omega arith
 
-returns-5 : tie.Need-returns-5
-unfolding openTests openTestsBarring judgeTestsBarring number refusalOf
-returns-5 c = refused-here (past-9 (c .before .before)) (sym (c .before .vertex-barred .ensures) ∙ c .if4 .taken)
+entries-refusal-requires : tie.Need-entries-refusal-requires
+entries-refusal-requires c κs = tt
 
-returns-6 : tie.Need-returns-6
-unfolding openTests openTestsBarring judgeTestsBarring number refusalOf
-returns-6 c = accepted-here (past-10 c)
+-- the last two tests are decided together
+returns-4 : tie.Need-returns-4
+unfolding openTests openTestsBarring judgeTestsBarring
+returns-4 c =
+    let barred = c .before in
+    let twice = barred .before in
+    c .entries-refusal .ensures
+    ∙ ap₂ (λ (x y : Bool). firstRefusal ((9, x) ∷ (24, y) ∷ [])) (twice .repeated .ensures) (barred .vertex-barred .ensures)
+    ∙ past-8 (twice .before) .same
 
 pub judge-refusal-spec : {M : Type 1} → statement M
 judge-refusal-spec =
@@ -105,7 +98,6 @@ judge-refusal-spec =
     vertex-outside-requires
     returns-3
     repeated-requires
-    returns-4
     vertex-barred-requires
-    returns-5
-    returns-6)
+    entries-refusal-requires
+    returns-4)

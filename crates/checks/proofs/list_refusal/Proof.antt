@@ -2,7 +2,7 @@
 -- Assumes nothing.
 use mathlib.Core.Path.{_≡_, sym, ap, ap₂, _∙_}
 use mathlib.Core.Bool.{Bool, not, _||_}
-use mathlib.Core.List.{List}
+use mathlib.Core.List.{List, [], _∷_}
 use mathlib.Core.Logic.{⊎-elim}
 use mathlib.Core.Option.{none}
 use Prim.Native.Nat.{ℕ}
@@ -57,17 +57,6 @@ past-10 c =
     (or-is (sym (c .before .before .before .vertex-outside .ensures) ∙ c .before .before .if4 .left)
     (sym (c .before .vertex-outside2 .ensures) ∙ c .if5 .left))
 
-past-11 : (c : tie.Else7) → Past 11 (c .before .before .before .before .before .before .before .before .before .before .before .before .before)
-unfolding openTests openTestsBarring listTestsBarring
-past-11 c =
-    tried-one (past-10 (c .before .before .before .before))
-    (or-is (sym (c .before .before .before .repeated .ensures) ∙ c .before .before .if6 .left)
-    (sym (c .before .repeated2 .ensures) ∙ c .if7 .left))
-
-past-12 : (c : tie.Else8) → Past 12 (c .before .before .before .before .before .before .before .before .before .before .before .before .before .before .before)
-unfolding openTests openTestsBarring listTestsBarring
-past-12 c = tried-one (past-11 (c .before .before)) (sym (c .before .vertex-barred .ensures) ∙ c .if8 .left)
-
 open-refusal-requires : tie.Need-open-refusal-requires
 open-refusal-requires c κs = tt
 
@@ -118,31 +107,27 @@ repeated-requires c κs = (
 )
 
 repeated-requires-2 : tie.Need-repeated-requires-2
-repeated-requires-2 c κs = (
-  omega arith,
-  entries-fit _ (rows-fit _ _ _ _ (opened (c .before .before .before .before .before .before .before .before .before)))
-      (sym (c .before .before .before .vertex-outside2 .ensures) ∙ c .before .before .if5 .left),
-)
-
-returns-6 : tie.Need-returns-6
-unfolding openTests openTestsBarring listTestsBarring number refusalOf
-returns-6 c =
-    refused-here (past-10 (c .before .before))
-    (⊎-elim
-    (λ w. rw (sym (c .before .repeated .ensures) ∙ w .taken))
-    (λ w. or-is (sym (c .before .repeated .ensures) ∙ w .0 .left) (sym (w .1 .ensures) ∙ w .2 .taken))
-    (c .if6 .came))
+repeated-requires-2 c κs =
+    let inside = c .before in (
+      omega arith,
+      entries-fit _ (rows-fit _ _ _ _ (opened (inside .before .before .before .before .before .before .before))) (sym (inside .before .vertex-outside2 .ensures) ∙ inside .if5 .left),
+    )
 
 vertex-barred-requires : tie.Need-vertex-barred-requires
 vertex-barred-requires c κs = omega arith
 
-returns-7 : tie.Need-returns-7
-unfolding openTests openTestsBarring listTestsBarring number refusalOf
-returns-7 c = refused-here (past-11 (c .before .before)) (sym (c .before .vertex-barred .ensures) ∙ c .if8 .taken)
+entries-refusal-requires : tie.Need-entries-refusal-requires
+entries-refusal-requires c κs = tt
 
-returns-8 : tie.Need-returns-8
-unfolding openTests openTestsBarring listTestsBarring number refusalOf
-returns-8 c = accepted-here (past-12 c)
+-- the last two tests are decided together
+returns-6 : tie.Need-returns-6
+unfolding openTests openTestsBarring listTestsBarring
+returns-6 c =
+    let barred = c .before in
+    let second = barred .before in
+    c .entries-refusal .ensures
+    ∙ ap₂ (λ (x y : Bool). firstRefusal ((9, x) ∷ (24, y) ∷ [])) (or-is (second .before .repeated .ensures) (second .repeated2 .ensures)) (barred .vertex-barred .ensures)
+    ∙ past-10 (second .before .before) .same
 
 pub list-refusal-spec : {M : Type 1} → statement M
 list-refusal-spec =
@@ -160,7 +145,6 @@ list-refusal-spec =
     returns-5
     repeated-requires
     repeated-requires-2
-    returns-6
     vertex-barred-requires
-    returns-7
-    returns-8)
+    entries-refusal-requires
+    returns-6)
