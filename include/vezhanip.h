@@ -15,13 +15,24 @@
  *                   No point is linked to itself or leads to itself.
  * Walk:             up to n distinct points in the order in which they were
  *                   placed, one byte each, each below n.
- * Preference list:  all n points, each once, one byte each.
+ * Preference list:  all n points, each once, one byte each, barred or not.
  *
  * Lengths are in bytes, and each pointer must lead to as many bytes as its
  * length says. No pointer may be NULL, not even that of an empty list: pass any
  * non-null pointer there, nothing is read through it. The output list must not
  * overlap another list of the same call. Apart from that, any values may be
- * passed; anything that is not as described above is refused, with a number.
+ * passed; anything that is not as described here is refused, with a number.
+ *
+ * Barred points
+ *
+ * A point that is out of service is barred. Every function takes the set of the
+ * barred points, a 64-bit word, after the plan: bit v (value 2^v) is set when
+ * point v is barred. 0 bars none. No bit at or above n may be set. Write
+ * (uint64_t)1 << v for a bit; 1 << v is an int, which is too narrow.
+ * Barred points and their links count as removed: the answer is the one for the
+ * plan without them. The other points keep their numbers. A walk must not name
+ * a barred point, and none is ever written or shown. In a preference list the
+ * barred points are passed over. n is the number of all points, barred or not.
  *
  * Kind
  *
@@ -44,10 +55,14 @@
 
 /*
  * The version of this interface. Additions raise the minor number; 1.1.0 adds
- * MCS, kind 6; 1.2.0 adds one-way plans.
+ * MCS, kind 6; 1.2.0 adds one-way plans. A change that callers must follow
+ * raises the major number; 2.0.0 adds the barred set, a parameter of all four
+ * functions. Programs made for 1.x must pass it (0 bars none) and be compiled
+ * again. The functions kept their names, so the linker does not notice if this
+ * is forgotten.
  */
-#define VEZHANIP_VERSION_MAJOR 1
-#define VEZHANIP_VERSION_MINOR 2
+#define VEZHANIP_VERSION_MAJOR 2
+#define VEZHANIP_VERSION_MINOR 0
 #define VEZHANIP_VERSION_PATCH 0
 #define VEZHANIP_VERSION                                         \
     (VEZHANIP_VERSION_MAJOR * 10000 + VEZHANIP_VERSION_MINOR * 100 \
@@ -84,6 +99,8 @@ extern "C" {
 #define VEZHANIP_POINT_TWICE        9u  /* a point twice in one list */
 #define VEZHANIP_OUTPUT_TOO_SHORT  10u  /* output list shorter than n */
 #define VEZHANIP_START_FAILS       12u  /* the first k points of the output do not pass */
+#define VEZHANIP_BARRED_OUTSIDE    23u  /* a bit at or above n in the barred set */
+#define VEZHANIP_POINT_BARRED      24u  /* a barred point in the walk, or among the first k points of the output */
 
 /*
  * A failed walk: VEZHANIP_FAILED + 65536 * a + 256 * b + c, where a, b, c is
@@ -105,7 +122,8 @@ extern "C" {
  *
  * The first triple has the earliest placed b, then the earliest placed a, then
  * the first c: placed points come first, in the order of the walk, then the
- * unplaced ones, by number. So c may be a point that is not in the walk.
+ * unplaced ones, by number. So c may be a point that is not in the walk. It is
+ * never a barred point: triples with a barred c do not count.
  */
 #define VEZHANIP_FAILED          16777216u
 #define VEZHANIP_HAS_FAILED(code) ((code) >= VEZHANIP_FAILED)
@@ -114,12 +132,13 @@ extern "C" {
 #define VEZHANIP_FAULT_C(code)    ((uint8_t)((code) & 255u))
 
 /*
- * Judges a walk over a two-way plan. Returns VEZHANIP_OK, a failure, or the
- * first refusal that applies, in the order 1, 2, 3, 4, 5, 6, 8, 9. Reads both
- * lists, writes none.
+ * Judges a walk over a two-way plan without its barred points. Returns
+ * VEZHANIP_OK, a failure, or the first refusal that applies, in the order 1, 2,
+ * 3, 4, 5, 23, 6, 8, 9, 24. Reads both lists, writes none.
  */
 uint32_t vezhanip_judge(uint8_t kind,
                         const uint8_t *plan, size_t plan_len,
+                        uint64_t barred,
                         const uint8_t *walk, size_t walk_len);
 
 /*
@@ -128,21 +147,25 @@ uint32_t vezhanip_judge(uint8_t kind,
  */
 uint32_t vezhanip_judge_one_way(uint8_t kind,
                                 const uint8_t *plan, size_t plan_len,
+                                uint64_t barred,
                                 const uint8_t *walk, size_t walk_len);
 
 /*
- * Carries a walk on over a two-way plan until all n points are placed. The
- * first k bytes of the output are the walk so far. At each step, of the points
- * that the search offers, the one that comes last in the preference list is
- * placed.
+ * Carries a walk on over a two-way plan without its barred points until all its
+ * other points are placed. The first k bytes of the output are the walk so far.
+ * At each step, of the points that the search offers, the one that comes last
+ * in the preference list is placed.
  *
  * Returns VEZHANIP_OK, or the first refusal that applies, in the order 1, 2, 3,
- * 4, 5, 6, 10, 7, 8, 9, 12. Reads the plan, the preference list and output[0]
- * to output[k - 1]. On VEZHANIP_OK output[k] to output[n - 1] are written; the
- * bytes before and after them stay as they were.
+ * 4, 5, 23, 6, 10, 7, 8, 9, 24, 12. Reads the plan, the preference list and
+ * output[0] to output[k - 1]. On VEZHANIP_OK output[k] to output[m - 1] are
+ * written, where m is the number of points that are not barred; the bytes
+ * before and after them stay as they were. The output needs n bytes, whatever
+ * is barred.
  */
 uint32_t vezhanip_carry_on(uint8_t kind,
                            const uint8_t *plan, size_t plan_len,
+                           uint64_t barred,
                            const uint8_t *preference, size_t preference_len,
                            uint8_t *output, size_t output_len,
                            size_t k);
@@ -154,6 +177,7 @@ uint32_t vezhanip_carry_on(uint8_t kind,
  */
 uint32_t vezhanip_carry_on_one_way(uint8_t kind,
                                    const uint8_t *plan, size_t plan_len,
+                                   uint64_t barred,
                                    const uint8_t *preference,
                                    size_t preference_len,
                                    uint8_t *output, size_t output_len,

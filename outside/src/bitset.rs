@@ -1,7 +1,8 @@
 //! Judge and carry-on on 64-bit words, made to be fast and not proved.
 //!
 //! Sets of points are words. The offered points come from the rows of the
-//! placed points; no label is built. Nothing is allocated.
+//! placed points; no label is built. Nothing is allocated. Barred points are
+//! left out of the unplaced ones; no smaller plan is built.
 
 mod search;
 
@@ -14,6 +15,8 @@ const FAILED: u32 = 1 << 24;
 struct Graph {
     rows: [u64; 64],
     size: usize,
+    /// The points that are not barred.
+    in_service: u64,
 }
 
 /// The set of the points 0 to n - 1.
@@ -29,7 +32,8 @@ fn holds(set: u64, v: u8) -> bool {
     set >> (v & 63) & 1 == 1
 }
 
-/// Every link stands in both of its rows.
+/// Every link stands in both of its rows. Not inlined: the loop takes longer where its callers need the registers.
+#[inline(never)]
 fn two_way(rows: &[u64; 64], n: usize) -> bool {
     for u in 0..n {
         let mut neighbours = rows[u];
@@ -45,8 +49,8 @@ fn two_way(rows: &[u64; 64], n: usize) -> bool {
 }
 
 impl Graph {
-    /// Refusals 1 to 5.
-    fn read(kind: Kind, plan: &[u8]) -> Result<Graph, u32> {
+    /// Refusals 1 to 5, and 23.
+    fn read(kind: Kind, plan: &[u8], barred: u64) -> Result<Graph, u32> {
         if kind > 6 {
             return Err(1);
         }
@@ -72,7 +76,10 @@ impl Graph {
         if !two_way(&rows, size) {
             return Err(5);
         }
-        Ok(Graph { rows, size })
+        if barred & !below(size) != 0 {
+            return Err(23);
+        }
+        Ok(Graph { rows, size, in_service: below(size) & !barred })
     }
 
     fn row(&self, v: u8) -> u64 {
@@ -89,9 +96,9 @@ fn set(points: &[u8]) -> u64 {
     points.iter().fold(0, |set, &v| set | 1 << (v & 63))
 }
 
-/// A point stands twice in a list of points below 64.
-fn any_twice(list: &[u8]) -> bool {
-    set(list).count_ones() as usize != list.len()
+/// A point stands twice in the list, which has these points below 64 and no others.
+fn any_twice(points: u64, list: &[u8]) -> bool {
+    points.count_ones() as usize != list.len()
 }
 
 fn failure_code(a: u8, b: u8, c: u8) -> u32 {
@@ -102,7 +109,7 @@ fn failure_code(a: u8, b: u8, c: u8) -> u32 {
 fn first_violation(kind: Kind, graph: &Graph, walk: &[u8], i: usize) -> u32 {
     let b = walk[i];
     let before = set(&walk[..i]);
-    let unplaced = below(graph.size) & !set(walk);
+    let unplaced = graph.in_service & !set(walk);
     let mut earlier = 0;
     for &a in &walk[..i] {
         let row = graph.row(a);
@@ -137,7 +144,7 @@ fn first_mcs_violation(graph: &Graph, walk: &[u8], i: usize) -> u32 {
     let neighbours_before = |v: u8| (graph.row(v) & before).count_ones();
     let of_b = neighbours_before(b);
     let ahead = (0..graph.size as u8)
-        .filter(|&c| !holds(before, c) && neighbours_before(c) > of_b)
+        .filter(|&c| holds(graph.in_service & !before, c) && neighbours_before(c) > of_b)
         .fold(0u64, |set, c| set | 1 << c);
     for &a in &walk[..i] {
         let found = graph.row(a) & ahead;
@@ -161,8 +168,8 @@ fn first_not_offered(search: &mut Search, walk: &[u8]) -> Option<usize> {
 }
 
 #[inline(never)]
-pub fn judge(kind: Kind, plan: &[u8], walk: &[u8]) -> u32 {
-    let graph = match Graph::read(kind, plan) {
+pub fn judge(kind: Kind, plan: &[u8], barred: u64, walk: &[u8]) -> u32 {
+    let graph = match Graph::read(kind, plan, barred) {
         Ok(graph) => graph,
         Err(refusal) => return refusal,
     };
@@ -172,8 +179,12 @@ pub fn judge(kind: Kind, plan: &[u8], walk: &[u8]) -> u32 {
     if any_outside(graph.size, walk) {
         return 8;
     }
-    if any_twice(walk) {
+    let points = set(walk);
+    if any_twice(points, walk) {
         return 9;
+    }
+    if points & !graph.in_service != 0 {
+        return 24;
     }
     match first_not_offered(&mut Search::new(kind, &graph), walk) {
         Some(i) if kind == MCS => first_mcs_violation(&graph, walk, i),
@@ -182,8 +193,9 @@ pub fn judge(kind: Kind, plan: &[u8], walk: &[u8]) -> u32 {
     }
 }
 
-/// Refusals 6 to 10 of carry-on, in its order.
-fn lists_refusal(n: usize, tie_break: &[u8], output: &[u8], k: usize) -> Option<u32> {
+/// Refusals 6 to 10 and 24 of carry-on, in its order.
+fn lists_refusal(graph: &Graph, tie_break: &[u8], output: &[u8], k: usize) -> Option<u32> {
+    let n = graph.size;
     if k > n {
         return Some(6);
     }
@@ -197,19 +209,30 @@ fn lists_refusal(n: usize, tie_break: &[u8], output: &[u8], k: usize) -> Option<
     if any_outside(n, start) || any_outside(n, tie_break) {
         return Some(8);
     }
-    if any_twice(start) || any_twice(tie_break) {
+    let placed = set(start);
+    if any_twice(placed, start) || any_twice(set(tie_break), tie_break) {
         return Some(9);
+    }
+    if placed & !graph.in_service != 0 {
+        return Some(24);
     }
     None
 }
 
 #[inline(never)]
-pub fn carry_on(kind: Kind, plan: &[u8], tie_break: &[u8], output: &mut [u8], k: usize) -> u32 {
-    let graph = match Graph::read(kind, plan) {
+pub fn carry_on(
+    kind: Kind,
+    plan: &[u8],
+    barred: u64,
+    tie_break: &[u8],
+    output: &mut [u8],
+    k: usize,
+) -> u32 {
+    let graph = match Graph::read(kind, plan, barred) {
         Ok(graph) => graph,
         Err(refusal) => return refusal,
     };
-    if let Some(refusal) = lists_refusal(graph.size, tie_break, output, k) {
+    if let Some(refusal) = lists_refusal(&graph, tie_break, output, k) {
         return refusal;
     }
     let mut search = Search::new(kind, &graph);
@@ -220,7 +243,8 @@ pub fn carry_on(kind: Kind, plan: &[u8], tie_break: &[u8], output: &mut [u8], k:
     for (i, &v) in tie_break.iter().enumerate() {
         rank[v as usize] = i as u8;
     }
-    for next in &mut output[k..graph.size] {
+    let in_service = graph.in_service.count_ones() as usize;
+    for next in &mut output[k..in_service] {
         let v = search.last_offered(tie_break, &rank);
         search.place(v);
         *next = v;

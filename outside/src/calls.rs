@@ -2,6 +2,8 @@
 
 use std::fmt;
 
+use crate::barred_sets;
+use crate::definition::without::Without;
 use crate::definition::{Graph, Kind, Mark, KINDS};
 use crate::graphs;
 use crate::orderings;
@@ -12,6 +14,7 @@ pub struct JudgeCall {
     pub kind: Kind,
     pub mark: Mark,
     pub plan: Vec<u8>,
+    pub barred: u64,
     pub walk: Vec<u8>,
 }
 
@@ -20,6 +23,7 @@ pub struct CarryOnCall {
     pub kind: Kind,
     pub mark: Mark,
     pub plan: Vec<u8>,
+    pub barred: u64,
     pub tie_break: Vec<u8>,
     pub output: Vec<u8>,
     pub k: usize,
@@ -36,13 +40,16 @@ fn random_size(random: &mut Random) -> usize {
     }
 }
 
-/// A judge call that no refusal applies to.
-pub fn random_judge(random: &mut Random, mark: Mark) -> JudgeCall {
+/// A judge call that no refusal applies to: the walk is over points that are not barred.
+pub fn random_judge(random: &mut Random, mark: Mark, choice: barred_sets::Choice) -> JudgeCall {
     let n = random_size(random);
     let kind = random.pick(&KINDS);
     let plan = graphs::random_plan(random, mark, n);
-    let walk = orderings::random_walk(random, kind, &Graph::from_plan(&plan));
-    JudgeCall { kind, mark, plan, walk }
+    let graph = Graph::from_plan(&plan);
+    let barred = choice(random, &graph);
+    let smaller = Without::new(&graph, barred);
+    let walk = smaller.named(&orderings::random_walk(random, kind, smaller.graph()));
+    JudgeCall { kind, mark, plan, barred, walk }
 }
 
 /// A carry-on call that no refusal applies to, but for 12.
@@ -50,11 +57,15 @@ pub fn random_carry_on(random: &mut Random, mark: Mark) -> CarryOnCall {
     let n = random_size(random);
     let kind = random.pick(&KINDS);
     let plan = graphs::random_plan(random, mark, n);
-    let start = random_start(random, kind, &Graph::from_plan(&plan));
+    let graph = Graph::from_plan(&plan);
+    let barred = barred_sets::any(random, &graph);
+    let smaller = Without::new(&graph, barred);
+    let start = smaller.named(&random_start(random, kind, smaller.graph()));
     let beyond = random.pick(&[0, 0, 1, 7, 64]);
     let mut output: Vec<u8> = (0..n + beyond).map(|_| random.byte()).collect();
     output[..start.len()].copy_from_slice(&start);
-    CarryOnCall { kind, mark, plan, tie_break: random.permutation(n), output, k: start.len() }
+    let (tie_break, k) = (random.permutation(n), start.len());
+    CarryOnCall { kind, mark, plan, barred, tie_break, output, k }
 }
 
 /// A walk so far: none, one that passes, or one that may fail.
@@ -87,7 +98,7 @@ fn damage_plan_size(random: &mut Random, plan: &mut Vec<u8>) {
 }
 
 /// One bit of the plan turned round, at u, v.
-fn flip(plan: &mut [u8], u: usize, v: usize) {
+pub fn flip(plan: &mut [u8], u: usize, v: usize) {
     plan[8 * u + v / 8] ^= 1 << (v % 8);
 }
 
@@ -125,6 +136,28 @@ fn damage_points(random: &mut Random, n: usize, list: &mut [u8]) {
     }
 }
 
+/// Bars a point of the list, or puts a barred point into it.
+fn damage_by_barring(random: &mut Random, barred: &mut u64, list: &mut [u8]) {
+    if list.is_empty() {
+        return;
+    }
+    let at = random.below(list.len());
+    let points = barred_sets::points(*barred);
+    if !points.is_empty() && random.percent(50) {
+        list[at] = random.pick(&points) as u8;
+    } else if list[at] < 64 {
+        *barred |= 1 << list[at];
+    }
+}
+
+/// A bit at or above n, where there is one.
+fn damage_barred(random: &mut Random, n: usize, barred: &mut u64) {
+    if n < 64 {
+        let any = random.between(n, 63);
+        *barred |= 1 << random.pick(&[n, 63, any]);
+    }
+}
+
 /// Makes the list longer or shorter; `extra` is the most that it grows.
 fn damage_length(random: &mut Random, list: &mut Vec<u8>, extra: usize) {
     if random.percent(50) {
@@ -143,10 +176,12 @@ fn damages(random: &mut Random) -> usize {
 pub fn damage_judge(random: &mut Random, call: &mut JudgeCall) {
     for _ in 0..damages(random) {
         let n = call.plan.len() / 8;
-        match random.below(7) {
+        match random.below(10) {
             0 => damage_kind(random, &mut call.kind),
             1..=3 => damage_plan(random, &mut call.plan),
-            4 => {
+            4 => damage_barred(random, n, &mut call.barred),
+            5..=6 => damage_by_barring(random, &mut call.barred, &mut call.walk),
+            7 => {
                 let surplus = random.pick(&[1, 1, 2, 64, 192, 256]);
                 call.walk.resize(n + surplus, random.byte() % 65);
             }
@@ -158,18 +193,18 @@ pub fn damage_judge(random: &mut Random, call: &mut JudgeCall) {
 pub fn damage_carry_on(random: &mut Random, call: &mut CarryOnCall) {
     for _ in 0..damages(random) {
         let n = call.plan.len() / 8;
-        match random.below(11) {
+        let start = call.k.min(call.output.len());
+        match random.below(14) {
             0 => damage_kind(random, &mut call.kind),
             1..=3 => damage_plan(random, &mut call.plan),
             4 => call.k = damaged_k(random, n),
             5 => damage_length(random, &mut call.tie_break, 8),
             6 => damage_points(random, n, &mut call.tie_break),
-            7 => {
-                let start = call.k.min(call.output.len());
-                damage_points(random, n, &mut call.output[..start]);
-            }
+            7 => damage_points(random, n, &mut call.output[..start]),
             8 => call.output.truncate(random.below(n + 1)),
             9 => call.output.truncate(n.saturating_sub(1)),
+            10 => damage_barred(random, n, &mut call.barred),
+            11..=12 => damage_by_barring(random, &mut call.barred, &mut call.output[..start]),
             _ => call.k = random.below(n + 1),
         }
     }
@@ -212,6 +247,7 @@ impl fmt::Display for JudgeCall {
     fn fmt(&self, f: &mut fmt::Formatter) -> fmt::Result {
         writeln!(f, "judge, kind {}, {:?}", self.kind, self.mark)?;
         show_plan(f, &self.plan)?;
+        writeln!(f, "  barred: {:?}", barred_sets::points(self.barred))?;
         write!(f, "  walk: {:?}", self.walk)
     }
 }
@@ -220,6 +256,7 @@ impl fmt::Display for CarryOnCall {
     fn fmt(&self, f: &mut fmt::Formatter) -> fmt::Result {
         writeln!(f, "carry-on, kind {}, {:?}", self.kind, self.mark)?;
         show_plan(f, &self.plan)?;
+        writeln!(f, "  barred: {:?}", barred_sets::points(self.barred))?;
         writeln!(f, "  preference list: {:?}", self.tie_break)?;
         writeln!(f, "  output before: {:?}", self.output)?;
         write!(f, "  k: {}", self.k)

@@ -5,7 +5,7 @@
 //!   smallest_witnesses   how small such walks can be, by trying all walks over all small plans
 
 use crate::definition::{
-    judge, Kind, Mark, Vertex, BFS, DFS, GENERIC, KINDS, LEX_BFS, LEX_DFS, MCS, MNS,
+    judge, Kind, Mark, Vertex, BFS, DFS, GENERIC, KINDS, LEX_BFS, LEX_DFS, MCS, MNS, NONE_BARRED,
 };
 use crate::{graphs, orderings};
 
@@ -128,7 +128,7 @@ pub fn smallest_witnesses(mark: Mark, n: usize) -> Table<Option<Size>> {
         for plan in graphs::all_plans(mark, n) {
             let links = graphs::count_links(mark, &plan);
             for walk in &walks {
-                let passes = KINDS.map(|kind| judge(kind, mark, &plan, walk) == 0);
+                let passes = KINDS.map(|kind| judge(kind, mark, &plan, NONE_BARRED, walk) == 0);
                 enter(&mut smallest, passes, (n, links, walk.len()));
             }
         }

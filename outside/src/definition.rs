@@ -1,5 +1,5 @@
-//! The definitions of 01, and of MCS, the charge, one-way plans, the way back and the comparison from 02, computed as
-//! they read, by trying everything.
+//! The definitions of 01, and of MCS, the charge, one-way plans, the way back, the comparison and points out of service
+//! from 02, computed as they read, by trying everything.
 //!
 //!   Mark                        whether the links of a plan have a direction       [02: K4]
 //!   Graph                       a plan: one row of 64 bits for each point          [01: plan]
@@ -9,7 +9,9 @@
 //!   offered kind ordering       the points that may come next                      [01: offered]
 //!   begins_run kind ordering    each point was offered when it was placed          [01: a run begins with a walk]
 //!   violation                   fault triples, and the first of them
-//!   judge, carry_on             the two calls, as the firmware sees them           [01: the calls]
+//!   completed kind tie_break    the full walk that a walk is carried on to         [01: carry-on]
+//!   without                     the plan without its barred points                 [02: K8]
+//!   judge, carry_on             the two calls, as the firmware sees them           [01: the calls; 02: K8]
 //!   open_walk                   the open walk, and its four calls
 //!   sheet                       the sheet: written, read and judged
 //!   charge                      what a walk is charged, by two rules for halves    [02: K2, K7]
@@ -43,6 +45,9 @@ pub enum Mark {
 }
 
 pub const MARKS: [Mark; 2] = [Mark::TwoWay, Mark::OneWay];
+
+/// The set without a point: what a call is handed where nothing is out of service.
+pub const NONE_BARRED: u64 = 0;
 
 /// What C gets for the triple 0, 0, 0.
 pub const FAILED: u32 = 16_777_216;
@@ -136,6 +141,18 @@ pub fn begins_run(kind: Kind, graph: &Graph, ordering: &[u8]) -> bool {
     (0..ordering.len()).all(was_offered)
 }
 
+/// The walk with points placed behind it until there is none left: each time the offered point that stands last in the
+/// preference list.
+pub fn completed(kind: Kind, graph: &Graph, tie_break: &[u8], walk: &[u8]) -> Vec<u8> {
+    let mut ordering = walk.to_vec();
+    while ordering.len() < graph.size() {
+        let offered = offered(kind, graph, &ordering);
+        let last = tie_break.iter().rfind(|&&v| offered.contains(&(v as Vertex)));
+        ordering.push(*last.expect("some point is always offered"));
+    }
+    ordering
+}
+
 // ---- Refusals ----
 
 type Test<'a> = (u32, &'a dyn Fn() -> bool);
@@ -153,8 +170,13 @@ fn point_twice(list: &[u8]) -> bool {
     (0..list.len()).any(|i| list[..i].contains(&list[i]))
 }
 
-/// Refusals 1 to 5; 5 is given for two-way plans only.
-fn plan_refusal(kind: Kind, mark: Mark, plan: &[u8]) -> Option<u32> {
+/// No point of the list is 64 or more.
+fn point_barred(barred: u64, list: &[u8]) -> bool {
+    list.iter().any(|&v| is_barred(barred, v as Vertex))
+}
+
+/// Refusals 1 to 5, and 23; 5 is given for two-way plans only.
+fn plan_refusal(kind: Kind, mark: Mark, plan: &[u8], barred: u64) -> Option<u32> {
     let graph = Graph::from_plan(plan);
     let n = graph.size();
     let bit_outside = |u: Vertex| (n..64).any(|v| graph.leads_to(u, v));
@@ -165,31 +187,34 @@ fn plan_refusal(kind: Kind, mark: Mark, plan: &[u8]) -> Option<u32> {
         (3, &|| (0..n).any(bit_outside)),
         (4, &|| (0..n).any(|u| graph.leads_to(u, u))),
         (5, &|| mark == Mark::TwoWay && (0..n).any(one_way)),
+        (23, &|| (n..64).any(|v| is_barred(barred, v))),
     ])
 }
 
-fn judge_refusal(kind: Kind, mark: Mark, plan: &[u8], walk: &[u8]) -> Option<u32> {
+fn judge_refusal(kind: Kind, mark: Mark, plan: &[u8], barred: u64, walk: &[u8]) -> Option<u32> {
     let n = plan.len() / 8;
     let walk_refusal = || {
         first_of(&[
             (6, &|| walk.len() > n),
             (8, &|| point_outside(n, walk)),
             (9, &|| point_twice(walk)),
+            (24, &|| point_barred(barred, walk)),
         ])
     };
-    plan_refusal(kind, mark, plan).or_else(walk_refusal)
+    plan_refusal(kind, mark, plan, barred).or_else(walk_refusal)
 }
 
 fn carry_on_refusal(
     kind: Kind,
     mark: Mark,
     plan: &[u8],
+    barred: u64,
     tie_break: &[u8],
     output: &[u8],
     k: usize,
 ) -> Option<u32> {
     let n = plan.len() / 8;
-    let fails = || first_violation(kind, &Graph::from_plan(plan), &output[..k]).is_some();
+    let fails = || first_violation_without(kind, plan, barred, &output[..k]).is_some();
     let list_refusal = || {
         first_of(&[
             (6, &|| k > n),
@@ -199,24 +224,37 @@ fn carry_on_refusal(
             (8, &|| point_outside(n, tie_break)),
             (9, &|| point_twice(&output[..k])),
             (9, &|| point_twice(tie_break)),
+            (24, &|| point_barred(barred, &output[..k])),
             (12, &fails),
         ])
     };
-    plan_refusal(kind, mark, plan).or_else(list_refusal)
+    plan_refusal(kind, mark, plan, barred).or_else(list_refusal)
 }
 
 // ---- The calls ----
 
 /// What C gets for a failed walk.
-pub fn failure_code(a: Vertex, b: Vertex, c: Vertex) -> u32 {
+pub const fn failure_code(a: Vertex, b: Vertex, c: Vertex) -> u32 {
     FAILED + 65_536 * a as u32 + 256 * b as u32 + c as u32
 }
 
-pub fn judge(kind: Kind, mark: Mark, plan: &[u8], walk: &[u8]) -> u32 {
-    if let Some(number) = judge_refusal(kind, mark, plan, walk) {
+/// The first triple of the plan without its barred points, named back. No point of the walk is barred.
+fn first_violation_without(
+    kind: Kind,
+    plan: &[u8],
+    barred: u64,
+    walk: &[u8],
+) -> Option<(Vertex, Vertex, Vertex)> {
+    let smaller = Without::new(&Graph::from_plan(plan), barred);
+    let triple = first_violation(kind, smaller.graph(), &smaller.numbered(walk));
+    triple.map(|(a, b, c)| (smaller.name(a), smaller.name(b), smaller.name(c)))
+}
+
+pub fn judge(kind: Kind, mark: Mark, plan: &[u8], barred: u64, walk: &[u8]) -> u32 {
+    if let Some(number) = judge_refusal(kind, mark, plan, barred, walk) {
         return number;
     }
-    match first_violation(kind, &Graph::from_plan(plan), walk) {
+    match first_violation_without(kind, plan, barred, walk) {
         Some((a, b, c)) => failure_code(a, b, c),
         None => 0,
     }
@@ -227,22 +265,19 @@ pub fn carry_on(
     kind: Kind,
     mark: Mark,
     plan: &[u8],
+    barred: u64,
     tie_break: &[u8],
     output: &[u8],
     k: usize,
 ) -> (u32, Vec<u8>) {
-    if let Some(number) = carry_on_refusal(kind, mark, plan, tie_break, output, k) {
+    if let Some(number) = carry_on_refusal(kind, mark, plan, barred, tie_break, output, k) {
         return (number, output.to_vec());
     }
-    let graph = Graph::from_plan(plan);
-    let mut ordering = output[..k].to_vec();
-    while ordering.len() < graph.size() {
-        let offered = offered(kind, &graph, &ordering);
-        let last = tie_break.iter().rfind(|&&v| offered.contains(&(v as Vertex)));
-        ordering.push(*last.expect("some point is always offered"));
-    }
+    let smaller = Without::new(&Graph::from_plan(plan), barred);
+    let start = smaller.numbered(&output[..k]);
+    let ordering = completed(kind, smaller.graph(), &smaller.numbered(tie_break), &start);
     let mut after = output.to_vec();
-    after[..ordering.len()].copy_from_slice(&ordering);
+    after[..ordering.len()].copy_from_slice(&smaller.named(&ordering));
     (0, after)
 }
 
@@ -252,8 +287,10 @@ pub mod sheet;
 pub mod stance;
 mod violation;
 pub mod way_back;
+pub mod without;
 
-pub use violation::first_violation;
+pub use violation::{first_violation, first_violation_where};
+use without::{is_barred, Without};
 
 #[cfg(test)]
 mod tests;

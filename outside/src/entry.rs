@@ -1,4 +1,5 @@
-//! The library's four C functions, two for each mark of a plan, called on guarded copies of the lists.
+//! The library's four C functions, two for each mark of a plan, called on guarded copies of the lists. All four take
+//! the set of barred points, right behind the plan.
 //!
 //! Each list is passed from the middle of a larger buffer. After the call every
 //! byte of the buffers is compared with what it must be.
@@ -10,6 +11,7 @@ extern "C" {
         kind: u8,
         plan: *const u8,
         plan_len: usize,
+        barred: u64,
         walk: *const u8,
         walk_len: usize,
     ) -> u32;
@@ -18,6 +20,7 @@ extern "C" {
         kind: u8,
         plan: *const u8,
         plan_len: usize,
+        barred: u64,
         walk: *const u8,
         walk_len: usize,
     ) -> u32;
@@ -26,6 +29,7 @@ extern "C" {
         kind: u8,
         plan: *const u8,
         plan_len: usize,
+        barred: u64,
         preference: *const u8,
         preference_len: usize,
         output: *mut u8,
@@ -37,6 +41,7 @@ extern "C" {
         kind: u8,
         plan: *const u8,
         plan_len: usize,
+        barred: u64,
         preference: *const u8,
         preference_len: usize,
         output: *mut u8,
@@ -46,19 +51,27 @@ extern "C" {
 }
 
 /// Judge on a two-way plan without guards, for the timing.
-pub fn judge(kind: Kind, plan: &[u8], walk: &[u8]) -> u32 {
+pub fn judge(kind: Kind, plan: &[u8], barred: u64, walk: &[u8]) -> u32 {
     // SAFETY: each pointer goes with the length of its list.
-    unsafe { vezhanip_judge(kind, plan.as_ptr(), plan.len(), walk.as_ptr(), walk.len()) }
+    unsafe { vezhanip_judge(kind, plan.as_ptr(), plan.len(), barred, walk.as_ptr(), walk.len()) }
 }
 
 /// Carry-on on a two-way plan without guards, for the timing.
-pub fn carry_on(kind: Kind, plan: &[u8], tie_break: &[u8], output: &mut [u8], k: usize) -> u32 {
+pub fn carry_on(
+    kind: Kind,
+    plan: &[u8],
+    barred: u64,
+    tie_break: &[u8],
+    output: &mut [u8],
+    k: usize,
+) -> u32 {
     // SAFETY: each pointer goes with the length of its list, and nothing else refers to `output`.
     unsafe {
         vezhanip_carry_on(
             kind,
             plan.as_ptr(),
             plan.len(),
+            barred,
             tie_break.as_ptr(),
             tie_break.len(),
             output.as_mut_ptr(),
@@ -120,7 +133,13 @@ impl Guarded {
 }
 
 /// Judge's answer, or which byte it altered.
-pub fn guarded_judge(kind: Kind, mark: Mark, plan: &[u8], walk: &[u8]) -> Result<u32, String> {
+pub fn guarded_judge(
+    kind: Kind,
+    mark: Mark,
+    plan: &[u8],
+    barred: u64,
+    walk: &[u8],
+) -> Result<u32, String> {
     let judge = match mark {
         Mark::TwoWay => vezhanip_judge,
         Mark::OneWay => vezhanip_judge_one_way,
@@ -128,8 +147,9 @@ pub fn guarded_judge(kind: Kind, mark: Mark, plan: &[u8], walk: &[u8]) -> Result
     let mut plan = Guarded::new("plan", plan);
     let mut walk = Guarded::new("walk", walk);
     // SAFETY: each pointer goes with the length of its list.
-    let answer =
-        unsafe { judge(kind, plan.pointer(), plan.length(), walk.pointer(), walk.length()) };
+    let answer = unsafe {
+        judge(kind, plan.pointer(), plan.length(), barred, walk.pointer(), walk.length())
+    };
     plan.check(false)?;
     walk.check(false)?;
     Ok(answer)
@@ -140,6 +160,7 @@ pub fn guarded_carry_on(
     kind: Kind,
     mark: Mark,
     plan: &[u8],
+    barred: u64,
     tie_break: &[u8],
     output: &[u8],
     k: usize,
@@ -157,6 +178,7 @@ pub fn guarded_carry_on(
             kind,
             plan.pointer(),
             plan.length(),
+            barred,
             tie_break.pointer(),
             tie_break.length(),
             output.pointer(),

@@ -3,9 +3,10 @@
 //!
 //!   definition   the sentences of 01 and 02 as loops
 //!   bitset       a fast implementation without proof, for the timing
-//!   entry        the library's four C functions, called with guarded lists
+//!   entry        the library's four C functions, which all take the barred points, called with guarded lists
 //!   graphs       plans to try
 //!   orderings    walks and preference lists to try
+//!   barred_sets  sets of barred points to try
 //!   carry_over   which kinds a walk passes because it passes another
 //!   calls        the inputs of one call, sound or damaged
 //!   sheets       sheets to try, sound or damaged
@@ -13,6 +14,7 @@
 //!   tables       the tables of times
 //!   pictures     the pictures, from an example and from the tables
 
+pub mod barred_sets;
 pub mod bitset;
 pub mod calls;
 pub mod carry_over;

@@ -1,5 +1,6 @@
 //! Sheets to try, sound or damaged; the long ones are in `long`.
 
+use crate::barred_sets;
 use crate::calls::{random_judge, JudgeCall};
 use crate::definition::sheet::{field, line, write};
 use crate::definition::{Graph, Mark, KINDS};
@@ -238,7 +239,7 @@ pub fn of_each_size(random: &mut Random) -> Vec<Sheet> {
 
 /// A sound sheet, mostly a small one.
 pub fn random_sheet(random: &mut Random) -> Sheet {
-    let JudgeCall { plan, walk, .. } = random_judge(random, Mark::TwoWay);
+    let JudgeCall { plan, walk, .. } = random_judge(random, Mark::TwoWay, barred_sets::none);
     of(&plan, &walk)
 }
 

@@ -43,7 +43,7 @@ use Rattle.lookup.proofs.Symmetry.{rows-within}
 use Rattle.labels.specs.Weights.{weightOf}
 use Rattle.labels.specs.Words.{Weighed}
 use Rattle.lookup.specs.Columns.{Transposed}
-use Rattle.steps.specs.Steps.{whole, Inside, labelsAfter, smallestAfter, largestAfter, placedAfter, freeAfter, stopsAt, Replayable}
+use Rattle.steps.specs.Steps.{whole, AreVertices, labelsAfter, smallestAfter, largestAfter, placedAfter, freeAfter, stopsAt, Replayable}
 use Rattle.filling.specs.Fill.{fillIn, Along}
 use Rattle.violation.specs.Fault.{lastIn, firstIn, firstFault, Searchable}
 use Rattle.lookup.proofs.Transposition.{own-transpose}
@@ -71,7 +71,7 @@ module _ (rows : List ℕ) {columns : List ℕ} (barred : ℕ) (w : List ℕ) (k
   abbrev all : ℕ
   all = whole (length rows) barred
 
-  abbrev inside : Inside (length rows) all
+  abbrev inside : AreVertices (length rows) all
   inside = whole-inside (x .small) barred
 
   abbrev in-service : (v : ℕ) → v < length rows → member all v ≡ unbarred barred v

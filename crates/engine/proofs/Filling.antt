@@ -21,7 +21,7 @@ use Rattle.searches.proofs.Kept.{choiceKept, growKept, carryOnKept}
 use Rattle.searches.proofs.CarryOnKept.{part-stays, stays-more}
 use Rattle.labels.specs.Words.{spreadTo}
 use Rattle.offers.specs.Open.{chosenIn}
-use Rattle.steps.specs.Steps.{Inside, grownBy, labelsAfter, freeAfter}
+use Rattle.steps.specs.Steps.{AreVertices, grownBy, labelsAfter, freeAfter}
 use Rattle.filling.specs.Fill.{fillIn}
 use Rattle.filling.proofs.Growing.{labels-agree, free-agree, labels-grown, free-grown, choice-same}
 
@@ -32,7 +32,7 @@ fill-length s rows t (suc m) p labels free =
     let v = chosenIn s labels free t in
     ap suc (fill-length s rows t m (suc p) (spreadTo (grownBy rows free v) p labels) (removed free v))
 
-module _ (s : Search) (rows : List ℕ) (all : ℕ) (small : length rows ≤ 64) (inside : Inside (length rows) all) where
+module _ (s : Search) (rows : List ℕ) (all : ℕ) (small : length rows ≤ 64) (inside : AreVertices (length rows) all) where
   abbrev n : ℕ
   n = length rows
 

@@ -27,11 +27,11 @@ use Rattle.searches.proofs.Kept.{keptLast, keptFirst, keptMiddle, judgeKept, of
 use Rattle.searches.proofs.Middle.{kept-unless-middle}
 use Rattle.labels.specs.Words.{unexcusedIn}
 use Rattle.offers.specs.Open.{openIn}
-use Rattle.steps.specs.Steps.{Inside, labelsAfter, freeAfter, stopsAt}
+use Rattle.steps.specs.Steps.{AreVertices, labelsAfter, freeAfter, stopsAt}
 use Rattle.violation.specs.Fault.{violatesIn, lastIn, firstIn}
 use Rattle.steps.proofs.Representation.{meets-cut, free-members, free-unplaced, label-members, open-offered}
 
-module _ (s : Search) (rows : List ℕ) (all : ℕ) (w : List ℕ) (k : ℕ) (small : length rows ≤ 64) (inside : Inside (length rows) all) (o : IsOrdering (length rows) w k)
+module _ (s : Search) (rows : List ℕ) (all : ℕ) (w : List ℕ) (k : ℕ) (small : length rows ≤ 64) (inside : AreVertices (length rows) all) (o : IsOrdering (length rows) w k)
     (stays : (p : ℕ) → p < k → T (member all (at w p))) where
   abbrev n : ℕ
   n = length rows

@@ -31,7 +31,7 @@ use Rattle.offers.specs.Open.{openIn, chosenIn}
 use Rattle.choice.specs.Ranks.{ranksBelow, Ranked, Named}
 use Rattle.choice.proofs.Ranking.{ranked}
 use Rattle.lookup.specs.Columns.{Transposed}
-use Rattle.steps.specs.Steps.{Inside, grownBy, keptAfter, labelsAfter, smallestAfter, largestAfter, freeAfter, placedAfter}
+use Rattle.steps.specs.Steps.{AreVertices, grownBy, keptAfter, labelsAfter, smallestAfter, largestAfter, freeAfter, placedAfter}
 use Rattle.filling.specs.Fill.{Along}
 use Rattle.steps.proofs.Representation.{free-unplaced, free-vertex, free-size, open-offered}
 use Rattle.steps.proofs.Tracking.{consistent-after}
@@ -90,7 +90,7 @@ module _ (s : Search) (rows : List ℕ) (small : length rows ≤ 64) where
   abbrev arc : ℕ → ℕ → Bool
   arc = arcs rows
 
-  pub choice-same : (all : ℕ) → Inside n all → (t w : List ℕ) (k : ℕ) → IsOrdering n w k
+  pub choice-same : (all : ℕ) → AreVertices n all → (t w : List ℕ) (k : ℕ) → IsOrdering n w k
       → choiceKept s arc n (member all) t w k ≡ chosenIn s (labelsAfter rows all w k) (freeAfter all w k) t
   unfolding choiceKept chosenIn
   choice-same all inside t w k o =
@@ -178,7 +178,7 @@ module _ (s : Search) (rows : List ℕ) (small : length rows ≤ 64) where
 
 module _ (rows : List ℕ) where
   -- the words after the first k vertices of a list are along an ordering
-  pub along-start : (all : ℕ) → Inside (length rows) all → (w : List ℕ) (k : ℕ) → IsOrdering (length rows) w k → ((p : ℕ) → p < k → T (member all (at w p)))
+  pub along-start : (all : ℕ) → AreVertices (length rows) all → (w : List ℕ) (k : ℕ) → IsOrdering (length rows) w k → ((p : ℕ) → p < k → T (member all (at w p)))
       → Along rows k (labelsAfter rows all w k) (smallestAfter rows all w k) (largestAfter rows all w k) (placedAfter w k) (freeAfter all w k)
   along-start all inside w k o stays = record {
     all = all;

@@ -15,7 +15,7 @@ use Rattle.searches.specs.Ordering.{at, IsOrdering, IsFullOrdering}
 use Rattle.labels.specs.Words.{spreadTo}
 use Rattle.offers.specs.Open.{chosenIn}
 use Rattle.lookup.specs.Columns.{Transposed}
-use Rattle.steps.specs.Steps.{Inside, grownBy, labelsAfter, smallestAfter, largestAfter, placedAfter, freeAfter, Staged}
+use Rattle.steps.specs.Steps.{AreVertices, grownBy, labelsAfter, smallestAfter, largestAfter, placedAfter, freeAfter, Staged}
 use Rattle.steps.specs.declared.place.Stage.{Stage}
 
 module _ (s : Search) where
@@ -27,7 +27,7 @@ module _ (s : Search) where
 
 pub record Along (rows : List ℕ) (p : ℕ) (labels smallest largest : List ℕ) (placed free : ℕ) : Type 0 where
   pub all : ℕ
-  pub inside : Inside (length rows) all
+  pub inside : AreVertices (length rows) all
   pub walk : List ℕ
   pub long : length walk ≡ p
   pub ordering : IsOrdering (length rows) walk p

@@ -2,14 +2,14 @@
 --   violates-same        the tests on three vertices agree
 --   judge-kept           and so do the verdicts
 -- Assumes nothing.
-use mathlib.Core.Path.{_≡_, refl, sym, ap, ap₂, _∙_, subst}
-use mathlib.Core.Bool.{Bool, true, cond, not, _&&_}
+use mathlib.Core.Path.{_≡_, sym, ap, _∙_, subst}
+use mathlib.Core.Bool.{Bool, true, cond, _&&_}
 use mathlib.Core.Logic.{_⊎_, inl, inr}
 use mathlib.Core.List.{List}
 use Prim.Native.Nat.{ℕ, suc, _+_, _-_, _≤_, _<_}
 use native.Mathlib.Omega.{arith}
 use lib.Dec.{T, ltb, lt→ltb, ltb→lt}
-use Rattle.bitset.specs.Below.{anyBelow, firstBelow, countBelow}
+use Rattle.bitset.specs.Below.{firstBelow, countBelow}
 use Rattle.bitset.proofs.Tests.{and-out, is-true, cond-yes, cond-no, below-or}
 use Rattle.bitset.proofs.Below.{any-same, any-out, first, first-same, first-found}
 use Rattle.searches.specs.Kind.{Search}
@@ -20,7 +20,7 @@ use Rattle.searches.proofs.Reason.{meets-same}
 use Rattle.searches.proofs.Judge.{third-placed, third-other, third-vertex}
 use Rattle.searches.specs.Without.{numberOf, nameOf, numbered, arcsOf, namedVerdict, judgeWithout}
 use Rattle.searches.proofs.Kept.{keptLast, keptFirst, keptMiddle, judgeKept}
-use Rattle.searches.proofs.Along.{Along, any-along, first-along}
+use Rattle.searches.proofs.RisingMap.{RisingMap, any-along, first-along}
 use Rattle.searches.proofs.Naming.{number-below, name-number, name-below, name-kept, name-rises}
 use Rattle.searches.proofs.Renumbered.{named-at, numbered-ordering, placed-same}
 
@@ -86,7 +86,7 @@ module _ (s : Search) (arc : ℕ → ℕ → Bool) (n : ℕ) (kept : ℕ → Boo
   third-inside : (e : ℕ) → e < k + n′ → third w′ k e < n′
   third-inside = third-vertex w′ k n′ (numbered-ordering n kept w k o stays .vertices)
 
-  last-along : (j i : ℕ) → i < j → j < k → Along (k + n) (k + n′) place (keptLast s arc n kept w k j i) (isLast s arc′ n′ w′ k j i)
+  last-along : (j i : ℕ) → i < j → j < k → RisingMap (k + n) (k + n′) place (keptLast s arc n kept w k j i) (isLast s arc′ n′ w′ k j i)
   unfolding keptLast isLast
   last-along j i h l = record {
     inside = λ e g. inside e g (below-or e k);

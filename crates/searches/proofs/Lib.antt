@@ -17,7 +17,7 @@ pub mod Numbered
 pub mod Answers
 pub mod Parts
 pub mod Kept
-pub mod Along
+pub mod RisingMap
 pub mod Naming
 pub mod Renumbered
 pub mod JudgeKept

@@ -2,14 +2,14 @@
 --   middle-out           isMiddle: a violation has its middle there
 --   offered-unless-middle, kept-unless-middle
 -- Assumes nothing.
-use mathlib.Core.Path.{_≡_, sym, ap, _∙_, subst}
+use mathlib.Core.Path.{_≡_, sym, ap, _∙_}
 use mathlib.Core.Bool.{Bool, not, _&&_}
 use mathlib.Core.List.{List}
 use Prim.Native.Nat.{ℕ, _+_, _<_}
 use native.Mathlib.Omega.{arith}
 use lib.Dec.{T, not-T, T-not}
 use Rattle.bitset.specs.Below.{countBelow}
-use Rattle.bitset.proofs.Tests.{same-test, decided, is-true, not-not}
+use Rattle.bitset.proofs.Tests.{same-test, is-true, not-not}
 use Rattle.bitset.proofs.Below.{any-out}
 use Rattle.searches.specs.Kind.{Search}
 use Rattle.searches.specs.Ordering.{at, IsOrdering}

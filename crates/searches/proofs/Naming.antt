@@ -3,14 +3,14 @@
 --   name-below, name-kept, number-name, name-number, name-rises
 --   number-same                    one number, one vertex
 -- Assumes nothing.
-use mathlib.Core.Path.{_≡_, refl, sym, ap, _∙_, subst}
+use mathlib.Core.Path.{_≡_, sym, subst}
 use mathlib.Core.Bool.{Bool, true, false, cond, _&&_}
 use mathlib.Core.Logic.{_⊎_, inl, inr}
 use Prim.Native.Nat.{ℕ, zero, suc, _≤_, _<_}
 use native.Mathlib.Omega.{arith}
 use lib.Dec.{T, eqb, eqb→eq, eqb-refl}
 use Rattle.bitset.specs.Below.{countBelow, firstBelow}
-use Rattle.bitset.proofs.Tests.{and-in, and-out, is-true, cond-yes, below-or, below-suc, three-ways}
+use Rattle.bitset.proofs.Tests.{and-in, and-out, cond-yes, below-or, three-ways}
 use Rattle.bitset.proofs.Below.{Some, first, first-found}
 use Rattle.searches.specs.Without.{numberOf, nameOf}
 

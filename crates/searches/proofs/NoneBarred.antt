@@ -21,7 +21,7 @@ use Rattle.searches.specs.Label.{label, outranks}
 use Rattle.searches.specs.Run.{offered}
 use Rattle.searches.specs.Violation.{Verdict, passes, fails, third, isLast, isFirst, isMiddle, judge}
 use Rattle.searches.specs.CarryOn.{choice, grow, carryOn}
-use Rattle.searches.specs.Without.{IsKeptOrdering, judgeWithout, offeredWithout, carryOnWithout}
+use Rattle.searches.specs.Without.{judgeWithout, offeredWithout, carryOnWithout}
 use Rattle.searches.proofs.Judge.{third-vertex}
 use Rattle.searches.proofs.Kept.{keptLast, keptFirst, keptMiddle, judgeKept, offeredKept, choiceKept, growKept, carryOnKept}
 use Rattle.searches.proofs.JudgeKept.{judge-kept}

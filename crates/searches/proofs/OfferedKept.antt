@@ -23,7 +23,7 @@ use Rattle.searches.proofs.Reason.{meets-in, meets-out, meets-same, out
 use Rattle.searches.proofs.Level.{alike-in, alike-sym, alike-level, level-trans}
 use Rattle.searches.specs.Without.{numberOf, nameOf, numbered, arcsOf, offeredWithout, comparedWithout}
 use Rattle.searches.proofs.Kept.{offeredKept}
-use Rattle.searches.proofs.Along.{Along, any-along}
+use Rattle.searches.proofs.RisingMap.{RisingMap, any-along}
 use Rattle.searches.proofs.Naming.{number-beyond, number-below, name-number, name-below, name-kept, name-rises}
 use Rattle.searches.proofs.Renumbered.{placed-same}
 use Rattle.searches.proofs.JudgeKept.{arc-same}
@@ -83,7 +83,7 @@ module _ (s : Search) (arc : ℕ → ℕ → Bool) (n : ℕ) (kept : ℕ → Boo
   ahead : (ℕ → ℕ → Bool) → List ℕ → ℕ → ℕ → Bool
   ahead g x v u = not (placed x k u) && outranks s k (label g x u) (label g x v)
 
-  beaten-along : (v : ℕ) → v < n → T (kept v) → Along n n′ name (λ u. kept u && ahead arc w v u) (ahead arc′ w′ (numberOf kept v))
+  beaten-along : (v : ℕ) → v < n → T (kept v) → RisingMap n n′ name (λ u. kept u && ahead arc w v u) (ahead arc′ w′ (numberOf kept v))
   unfolding ahead
   beaten-along v l t = record {
     inside = name-below kept n;

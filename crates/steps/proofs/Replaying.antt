@@ -26,7 +26,7 @@ use Rattle.labels.specs.Words.{labelWith, smallestWith, largestWith, spreadBy, 
 use Rattle.offers.specs.Open.{beatenIn, openIn}
 use Rattle.labels.proofs.Weights.{weighed-none}
 use Rattle.offers.proofs.Narrowing.{all-offered}
-use Rattle.steps.specs.Steps.{Inside, grownBy, keptAfter, labelsAfter, smallestAfter, largestAfter, freeAfter, placedAfter, stopsAt, Staged, Placeable, Replayable}
+use Rattle.steps.specs.Steps.{AreVertices, grownBy, keptAfter, labelsAfter, smallestAfter, largestAfter, freeAfter, placedAfter, stopsAt, Staged, Placeable, Replayable}
 use Rattle.steps.specs.declared.place.Stage.{Stage}
 use Rattle.steps.proofs.Representation.{free-unplaced}
 use Rattle.steps.proofs.Tracking.{consistent-after}
@@ -47,7 +47,7 @@ module _ (s : Search) (rows : List ℕ) (all : ℕ) (w : List ℕ) (k : ℕ) whe
     pub staged : Staged s labels weights stage j
     pub unbeaten : (i : ℕ) → i < j → T (stopsAt s rows all w i) → ⊥
 
-  module _ {columns labels₀ smallest₀ largest₀ weights₀ : List ℕ} (inside : Inside (length rows) all) (x : Replayable rows columns all w k labels₀ smallest₀ largest₀ weights₀) where
+  module _ {columns labels₀ smallest₀ largest₀ weights₀ : List ℕ} (inside : AreVertices (length rows) all) (x : Replayable rows columns all w k labels₀ smallest₀ largest₀ weights₀) where
     ordering : IsOrdering (length rows) w k
     ordering = record { long = x .long; vertices = x .vertices; distinct = x .distinct }
 

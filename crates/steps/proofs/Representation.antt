@@ -37,7 +37,7 @@ use Rattle.offers.specs.Open.{beatenIn, openIn}
 use Rattle.bitset.proofs.Joining.{suc-split}
 use Rattle.labels.proofs.Spreading.{member-joined}
 use Rattle.labels.proofs.Spreading.{spread-length, spread-at}
-use Rattle.steps.specs.Steps.{whole, Inside, keptAfter, labelsAfter, freeAfter, grownBy}
+use Rattle.steps.specs.Steps.{whole, AreVertices, keptAfter, labelsAfter, freeAfter, grownBy}
 
 -- ---- sets that end at a bound
 
@@ -143,7 +143,7 @@ module _ (all : ℕ) (w : List ℕ) where
   pub free-stays : (j v : ℕ) → T (member (freeAfter all w j) v) → T (member all v)
   free-stays j v t = and-out (member all v) (not (placed w j v)) (subst (λ (b : Bool). T b) (free-members j v) t) .0
 
-  pub free-vertex : {n : ℕ} → Inside n all → (j v : ℕ) → T (member (freeAfter all w j) v) → v < n
+  pub free-vertex : {n : ℕ} → AreVertices n all → (j v : ℕ) → T (member (freeAfter all w j) v) → v < n
   free-vertex inside j v t = inside v (free-stays j v t)
 
   -- a placed vertex is one unplaced less
@@ -169,7 +169,7 @@ module _ {n : ℕ} (small : n ≤ 64) (barred : ℕ) where
   unfolding unbarred
   whole-unbarred v l = whole-members v ∙ ap (λ (b : Bool). b && not (member barred v)) (is-true (ltb v n) (lt→ltb v n l))
 
-  pub whole-inside : Inside n (whole n barred)
+  pub whole-inside : AreVertices n (whole n barred)
   whole-inside v t = ltb→lt v n (and-out (ltb v n) (not (member barred v)) (subst (λ (b : Bool). T b) (whole-members v) t) .0)
 
   pub whole-count : countBelow 64 (member (whole n barred)) ≡ countBelow n (unbarred barred)
@@ -214,7 +214,7 @@ module _ (put : ℕ → ℕ → ℕ) (start : ℕ) (rows : List ℕ) (all : ℕ)
 
 -- ---- the labels
 
-module _ (rows : List ℕ) (all : ℕ) (w : List ℕ) (k : ℕ) (small : length rows ≤ 64) (inside : Inside (length rows) all) (o : IsOrdering (length rows) w k) where
+module _ (rows : List ℕ) (all : ℕ) (w : List ℕ) (k : ℕ) (small : length rows ≤ 64) (inside : AreVertices (length rows) all) (o : IsOrdering (length rows) w k) where
   -- of an unplaced vertex
   pub label-members : (j : ℕ) → j ≤ k → (v : ℕ) → T (member (freeAfter all w j) v) → (p : ℕ)
       → member (getD (labelsAfter rows all w j) v 0) p ≡ (ltb p j && label (arcs rows) w v p)
@@ -233,7 +233,7 @@ module _ (rows : List ℕ) (all : ℕ) (w : List ℕ) (k : ℕ) (small : length 
 
 -- ---- who is ahead, beaten, offered
 
-module _ (s : Search) (rows : List ℕ) (all : ℕ) (w : List ℕ) (k : ℕ) (small : length rows ≤ 64) (inside : Inside (length rows) all) (o : IsOrdering (length rows) w k) where
+module _ (s : Search) (rows : List ℕ) (all : ℕ) (w : List ℕ) (k : ℕ) (small : length rows ≤ 64) (inside : AreVertices (length rows) all) (o : IsOrdering (length rows) w k) where
   abbrev n : ℕ
   n = length rows
 

@@ -24,7 +24,7 @@ use Rattle.labels.specs.Weights.{tally}
 use Rattle.labels.specs.Words.{labelWith, joinedIn}
 use Rattle.labels.proofs.Spreading.{member-joined}
 use Rattle.lookup.specs.Columns.{Transposed}
-use Rattle.steps.specs.Steps.{Inside, labelsAfter, freeAfter, placedAfter}
+use Rattle.steps.specs.Steps.{AreVertices, labelsAfter, freeAfter, placedAfter}
 use Rattle.steps.proofs.Representation.{cut-below, free-vertex, free-earlier, kept-start, kept-next, label-members}
 
 -- ---- one number more
@@ -85,7 +85,7 @@ module _ (rows w : List ℕ) (k : ℕ) (small : length rows ≤ 64) (o : IsOrder
       word.member-inserted (placedAfter w j) {e = at w j} (omega (arith, o .vertices j h)) v
       ∙ ap (λ (b : Bool). eqb (at w j) v || b) (placed-members j (omega arith) v)
 
-  module _ (all : ℕ) (inside : Inside (length rows) all) (columns : List ℕ) (transpose : Transposed rows columns) where
+  module _ (all : ℕ) (inside : AreVertices (length rows) all) (columns : List ℕ) (transpose : Transposed rows columns) where
     -- of an unplaced vertex
     pub tallied-after : (j : ℕ) → j ≤ k → (v : ℕ) → T (member (freeAfter all w j) v)
         → tally columns (placedAfter w j) v ≡ countBelow 64 (member (getD (labelsAfter rows all w j) v 0))

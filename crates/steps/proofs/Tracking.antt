@@ -25,7 +25,7 @@ use Rattle.searches.proofs.Running.{smallest-found, smallest-absent, largest-fo
 use Rattle.labels.specs.Weights.{smallestByte, largestByte, Consistent}
 use Rattle.labels.specs.Words.{labelWith, smallestWith, largestWith, changedBy}
 use Rattle.lookup.specs.Columns.{Transposed}
-use Rattle.steps.specs.Steps.{Inside, labelsAfter, smallestAfter, largestAfter, freeAfter, placedAfter}
+use Rattle.steps.specs.Steps.{AreVertices, labelsAfter, smallestAfter, largestAfter, freeAfter, placedAfter}
 use Rattle.steps.proofs.Representation.{cut-same, cut-below, free-vertex, free-earlier, kept-length, kept-start, kept-next, label-members}
 use Rattle.steps.proofs.Tallying.{tallied-after}
 
@@ -72,7 +72,7 @@ module _ (j m : ℕ) (l : j ≤ m) (f f′ : ℕ → Bool) (cut : (p : ℕ) → 
 
 -- ---- along an ordering
 
-module _ (rows : List ℕ) (all : ℕ) (w : List ℕ) (k : ℕ) (small : length rows ≤ 64) (inside : Inside (length rows) all) (o : IsOrdering (length rows) w k) where
+module _ (rows : List ℕ) (all : ℕ) (w : List ℕ) (k : ℕ) (small : length rows ≤ 64) (inside : AreVertices (length rows) all) (o : IsOrdering (length rows) w k) where
   abbrev arc : ℕ → ℕ → Bool
   arc = arcs rows
 

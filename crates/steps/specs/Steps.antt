@@ -1,7 +1,7 @@
 -- An ordering placed step by step on labels that are kept as words, and on the running values beside them.
 --   grownBy rows free v           the vertices that v leads to, of `free` without v
 --   whole n barred                the vertices below n that are not barred                                    [02, K8: the unbarred points]
---   Inside n all                  the vertices of `all` are below n
+--   AreVertices n all             the members of `all` are vertices: they are below n
 --   keptAfter put start rows all w j   what is kept of the vertices of `all` after the first j vertices of w: `start` at first, then changed by `put p` for
 --                                 the unplaced ones that the vertex at position p leads to
 --   labelsAfter rows all w j      the labels after the first j vertices of w
@@ -33,8 +33,8 @@ use Rattle.steps.specs.declared.place.Stage.{Stage}
 unfoldable pub whole : ℕ → ℕ → ℕ
 whole n barred = difference (fullBelow n) barred
 
-abbrev pub Inside : ℕ → ℕ → Type 0
-Inside n all = (v : ℕ) → T (member all v) → v < n
+abbrev pub AreVertices : ℕ → ℕ → Type 0
+AreVertices n all = (v : ℕ) → T (member all v) → v < n
 
 unfoldable pub freeAfter : ℕ → List ℕ → ℕ → ℕ
 freeAfter all w zero = all

@@ -8,23 +8,21 @@
 -- Assumes nothing.
 use Prim.Native.Nat.{ℕ, _-_, _<_}
 use mathlib.Core.Path.{_≡_, refl, sym, ap, ap₂, _∙_, subst}
-use mathlib.Core.Bool.{Bool, true, false, cond, not, _&&_, _||_}
+use mathlib.Core.Bool.{Bool, false, cond, not, _&&_, _||_}
 use mathlib.Core.Logic.{_⊎_, inl, inr}
 use mathlib.Core.List.{List, [], _∷_, _++_}
 use mathlib.Core.Option.{Option, none, some}
 use lib.Dec.{T, leb, eqb, nleb→lt, not-T}
 use lib.ListN.{length, replicate}
-use Rattle.bitset.specs.Below.{countBelow}
 use Rattle.bitset.specs.Word.{member, setBelow}
-use Rattle.bitset.proofs.Tests.{or-inl, or-inr, decided, not-not, cond-yes, cond-no}
+use Rattle.bitset.proofs.Tests.{or-inl, or-inr, decided, not-not, cond-no}
 use Rattle.bitset.proofs.Word.{member-zero}
 use Rattle.searches.specs.Kind.{Search, searchOf}
 use Rattle.searches.specs.Ordering.{arcs, placed}
 use Rattle.searches.specs.Label.{label}
 use Rattle.searches.specs.Comparison.{compared}
 use Rattle.searches.specs.Run.{offered}
-use Rattle.searches.specs.Answer.{isPass, firstRefusal, judgeAnswer, openAnswer, unbarred, judgeBarring, openBarring}
-use Rattle.searches.specs.declared.Comparison.{Comparison}
+use Rattle.searches.specs.Answer.{isPass, firstRefusal, judgeAnswer, openAnswer, unbarred, judgeBarring}
 use Rattle.searches.specs.declared.Mark.{Mark}
 use Rattle.searches.proofs.Refusals.{none-accepts, refuses-first}
 use Rattle.searches.proofs.NoneBarred.{count-whole, offered-all}
@@ -33,7 +31,7 @@ use Rattle.searches.proofs.OfferedKept.{compared-kept}
 use Rattle.lookup.specs.Unused.{usedFrom}
 use Rattle.traversal.specs.declared.Traversal.{Traversal}
 use Rattle.traversal.specs.State.{state, plan, walk, inService, wellFormed, offers, offeredSet, unlessRefused, nothingOpen, opened, placeTests, placeAnswer}
-use Rattle.traversal.specs.Compare.{compareTests, stance, Report, reported, compareAnswer}
+use Rattle.traversal.specs.Compare.{compareTests, stance, reported, compareAnswer}
 use Rattle.traversal.proofs.WellFormed.{well-formed-out}
 use Rattle.traversal.proofs.Answered.{set-same-test}
 

@@ -35,7 +35,7 @@ use Rattle.searches.proofs.NoneBarred.{offered-alike}
 use Rattle.labels.specs.Weights.{weightOf}
 use Rattle.labels.specs.Words.{Weighed, comparedIn}
 use Rattle.offers.specs.Open.{openIn}
-use Rattle.steps.specs.Steps.{whole, Inside, labelsAfter, freeAfter}
+use Rattle.steps.specs.Steps.{whole, AreVertices, labelsAfter, freeAfter}
 use Rattle.steps.proofs.Representation.{open-offered, free-stays, free-word, free-unplaced, free-size, whole-unbarred, whole-inside, whole-count, whole-word, compared-same}
 use Rattle.engine.specs.declared.after.Moment.{Moment}
 use Rattle.engine.specs.Moments.{noMoment, momentOf, momentAfter}
@@ -190,7 +190,7 @@ module _ (t : Traversal) (rows-full : length (t .rows) ≡ 64) (ordering-full : 
     small : length (plan t) ≤ 64
     small = omega (arith, plan-length (x .points), x .points)
 
-    inside : Inside (length (plan t)) all
+    inside : AreVertices (length (plan t)) all
     inside v m = omega (arith, whole-inside (x .points) (t .barred) v m, plan-length (x .points))
 
     distinct : IsOrdering (length (plan t)) (walk t) (t .k)

@@ -21,7 +21,7 @@ use Rattle.searches.specs.Kind.{Search}
 use Rattle.searches.specs.Ordering.{arcs, at}
 use Rattle.searches.specs.Violation.{third, Verdict, fails}
 use Rattle.labels.specs.Words.{Weighed, unexcusedIn}
-use Rattle.steps.specs.Steps.{Inside, freeAfter}
+use Rattle.steps.specs.Steps.{AreVertices, freeAfter}
 
 unfoldable pub frontIn : List ℕ → ℕ → ℕ → ℕ → ℕ
 frontIn rows free a b = cond (arcs rows a b) 0 (common (getD rows a 0) free)
@@ -64,7 +64,7 @@ pub record Searchable (s : Search) (rows w : List ℕ) (k : ℕ) (labels weights
   pub small : length rows ≤ 64
   pub vertices : (p : ℕ) → p < k → at w p < length rows
   pub all : ℕ
-  pub within : Inside (length rows) all
+  pub within : AreVertices (length rows) all
   pub unplaced : free ≡ freeAfter all w j
   pub weighed : Weighed s labels weights
 

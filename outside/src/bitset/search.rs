@@ -1,6 +1,6 @@
 //! A walk that grows, and the points that may come next.
 
-use super::{below, holds, Graph};
+use super::{holds, Graph};
 use crate::definition::{Kind, BFS, DFS, GENERIC, LEX_BFS, MCS, MNS};
 
 /// A walk that grows: which points are placed, and where the search goes on.
@@ -37,7 +37,7 @@ impl<'a> Search<'a> {
             graph,
             ordering: [0; 64],
             length: 0,
-            unplaced: below(graph.size),
+            unplaced: graph.in_service,
             reached: 0,
             head: 0,
             stack: [0; 64],
@@ -123,9 +123,10 @@ impl<'a> Search<'a> {
         all_of_b & one_more == 0
     }
 
-    /// MCS: how many neighbours of v are placed.
+    /// MCS: how many neighbours of v are placed. Barred points are neither placed nor unplaced.
     fn placed_neighbours(&self, v: u8) -> u32 {
-        (self.graph.row(v) & !self.unplaced).count_ones()
+        let placed = self.graph.in_service & !self.unplaced;
+        (self.graph.row(v) & placed).count_ones()
     }
 
     /// The unplaced points with a placed neighbour; all unplaced points where there is none.

@@ -17,8 +17,8 @@ fn there_is_a_witness_for_each_no() {
     let shown: Vec<(Kind, Kind)> = WITNESSES.iter().map(|&(from, to, _)| (from, to)).collect();
     assert_eq!(shown, pairs(&CARRIES_OVER, |&entry| entry == NO));
     for (from, to, example) in WITNESSES {
-        assert_eq!(judge(from, Mark::TwoWay, &example.plan(), example.walk), 0);
-        assert!(judge(to, Mark::TwoWay, &example.plan(), example.walk) >= FAILED);
+        assert_eq!(judge(from, Mark::TwoWay, &example.plan(), NONE_BARRED, example.walk), 0);
+        assert!(judge(to, Mark::TwoWay, &example.plan(), NONE_BARRED, example.walk) >= FAILED);
     }
 }
 

@@ -7,7 +7,7 @@
 
 use std::cmp::Ordering;
 
-use super::{begins_run, bytes, first_of, judge_refusal, Graph, Kind, Mark, Vertex};
+use super::{begins_run, bytes, first_of, judge_refusal, Graph, Kind, Mark, Vertex, NONE_BARRED};
 
 /// Each placed point's minutes, plus 7 for each placed point after the first that is not linked to the one placed
 /// directly before it; in a one-way plan, where the earlier point does not lead to the next.
@@ -58,7 +58,7 @@ pub fn charge(
             (20, &|| !begins_run(kind, &graph, walk)),
         ])
     };
-    match judge_refusal(kind, mark, &plan, walk).or_else(refusal_after_judge) {
+    match judge_refusal(kind, mark, &plan, NONE_BARRED, walk).or_else(refusal_after_judge) {
         Some(number) => Err(number),
         None => Ok(nearest_cent(minutes_of(&graph, walk, minutes) * rate, halves)),
     }

@@ -10,7 +10,7 @@
 use std::collections::HashMap;
 use std::sync::LazyLock;
 
-use super::{first_of, judge, Mark, Vertex, FAILED, KINDS};
+use super::{first_of, judge, Mark, Vertex, FAILED, KINDS, NONE_BARRED};
 
 /// The length of the longest valid sheet.
 pub const LONGEST: usize = 18_477;
@@ -103,7 +103,7 @@ pub fn judgement(bytes: &[u8]) -> Vec<u8> {
         Err(number) => return line(&[number as usize]),
     };
     let plan: Vec<u8> = rows.iter().flat_map(|row| row.to_le_bytes()).collect();
-    let judged = |kind| match judge(kind, Mark::TwoWay, &plan, &walk) {
+    let judged = |kind| match judge(kind, Mark::TwoWay, &plan, NONE_BARRED, &walk) {
         0 => line(&[kind as usize, 1]),
         refusal @ 1..FAILED => unreachable!("refusal {refusal} for a sheet that was read"),
         code => {

@@ -1,4 +1,4 @@
-//! Two unplaced points compared, from the sentences of 02.
+//! Two unplaced points compared, from the sentences of 02; where points are barred, in the plan without these.
 //!
 //!   places_of           the places in a label, as a set                            [01: label]
 //!   is_level            two labels are level                                       [02: K6]
@@ -10,7 +10,8 @@
 use std::collections::BTreeSet;
 
 use super::open_walk::OpenWalk;
-use super::{bytes, first_of, label, offered, outranks, Graph, Kind, Position, Vertex};
+use super::without::is_barred;
+use super::{first_of, label, outranks, Kind, Position, Vertex};
 use super::{BFS, DFS, GENERIC, LEX_BFS, LEX_DFS, MCS, MNS};
 
 /// How the first of two points stands to the second.
@@ -67,13 +68,11 @@ pub fn stance(kind: Kind, c: &[bool], b: &[bool]) -> Stance {
     }
 }
 
-/// The plan of an open walk that is well formed.
-fn graph_of(walk: &OpenWalk) -> Graph {
-    Graph::from_plan(&bytes(&walk.rows[..walk.n]))
-}
-
+/// The label of an unbarred point, on an open walk that is well formed.
 fn label_of(walk: &OpenWalk, v: u8) -> Vec<bool> {
-    label(&graph_of(walk), &walk.places[..walk.k], v as Vertex)
+    let smaller = walk.smaller();
+    let own = smaller.number(v as Vertex).expect("the point is not barred");
+    label(smaller.graph(), &smaller.numbered(walk.placed()), own)
 }
 
 /// Each number is tried on both points before the following one.
@@ -82,7 +81,8 @@ fn answer(walk: &OpenWalk, well_formed: bool, first: u8, second: u8) -> Answer {
     let refusal = first_of(&[
         (13, &|| !well_formed),
         (8, &|| both.iter().any(|&v| v as usize >= walk.n)),
-        (15, &|| both.iter().any(|v| walk.places[..walk.k].contains(v))),
+        (24, &|| both.iter().any(|&v| is_barred(walk.barred, v as Vertex))),
+        (15, &|| both.iter().any(|v| walk.placed().contains(v))),
     ]);
     match refusal {
         Some(number) => Err(number),
@@ -110,7 +110,7 @@ pub fn broken_promise(
     answers: &[Vec<Answer>],
 ) -> Option<&'static str> {
     let next = match walk.well_formed() {
-        true => offered(walk.kind, &graph_of(walk), &walk.places[..walk.k]),
+        true => walk.next_points(),
         false => Vec::new(),
     };
     let pairs = (0..points.len()).flat_map(|i| (0..points.len()).map(move |j| (i, j)));
@@ -133,7 +133,8 @@ fn broken_by(
     let both_empty = [i, j].iter().all(|&at| !label_of(walk, points[at]).contains(&true));
     let is_offered = |at: usize| next.contains(&(points[at] as Vertex));
     let beaten = answers.iter().any(|to_each| to_each[j] == Ok(Stance::Ahead));
-    let all_compared = (0..walk.n).all(|v| points.contains(&(v as u8)));
+    let all_compared =
+        (0..walk.n).all(|v| is_barred(walk.barred, v) || points.contains(&(v as u8)));
     let promises = [
         ("a point is level with itself", points[i] != points[j] || level),
         ("two empty labels are level in every kind", !both_empty || level),

@@ -2,20 +2,21 @@ use super::*;
 use crate::graphs;
 use crate::orderings;
 
+mod barred;
 mod one_way;
 
 fn failed(triple: (Vertex, Vertex, Vertex)) -> u32 {
     failure_code(triple.0, triple.1, triple.2)
 }
 
-/// On a two-way plan, as in all of 01.
+/// On a two-way plan with nothing barred, as in all of 01.
 fn judge(kind: Kind, plan: &[u8], walk: &[u8]) -> u32 {
-    super::judge(kind, Mark::TwoWay, plan, walk)
+    super::judge(kind, Mark::TwoWay, plan, NONE_BARRED, walk)
 }
 
-/// On a two-way plan, as in all of 01.
+/// On a two-way plan with nothing barred, as in all of 01.
 fn carry_on(kind: Kind, plan: &[u8], tie_break: &[u8], output: &[u8], k: usize) -> (u32, Vec<u8>) {
-    super::carry_on(kind, Mark::TwoWay, plan, tie_break, output, k)
+    super::carry_on(kind, Mark::TwoWay, plan, NONE_BARRED, tie_break, output, k)
 }
 
 #[test]

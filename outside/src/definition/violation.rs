@@ -2,6 +2,7 @@
 //!
 //!   is_violation kind a b c     a, b, c stand in the fault relation                [01, 02: fault triple]
 //!   first_violation kind        the first of them                                  [01: first triple]
+//!   first_violation_where       the first of those with such a c
 
 use super::{Graph, Kind, Position, Vertex, BFS, DFS, GENERIC, LEX_BFS, LEX_DFS, MCS, MNS};
 
@@ -76,11 +77,21 @@ pub fn first_violation(
     graph: &Graph,
     ordering: &[u8],
 ) -> Option<(Vertex, Vertex, Vertex)> {
+    first_violation_where(kind, graph, ordering, |_| true)
+}
+
+/// The first by the same rule of the triples whose c is such.
+pub fn first_violation_where(
+    kind: Kind,
+    graph: &Graph,
+    ordering: &[u8],
+    such: impl Fn(Vertex) -> bool,
+) -> Option<(Vertex, Vertex, Vertex)> {
     let places = Places::of(graph, ordering);
     let mut violations = Vec::new();
     for a in graph.vertices() {
         for b in graph.vertices() {
-            for c in graph.vertices() {
+            for c in graph.vertices().filter(|&c| such(c)) {
                 if is_violation(kind, graph, &places, (a, b, c)) {
                     violations.push((a, b, c));
                 }

@@ -9,7 +9,7 @@
 use std::collections::VecDeque;
 use std::iter::successors;
 
-use super::{begins_run, bytes, first_of, judge_refusal, Graph, Mark, Vertex, BFS};
+use super::{begins_run, bytes, first_of, judge_refusal, Graph, Mark, Vertex, BFS, NONE_BARRED};
 
 /// The earliest of the neighbours placed before v; in a one-way plan, of the points that lead to it.
 pub fn parent(graph: &Graph, walk: &[u8], v: Vertex) -> Option<Vertex> {
@@ -73,7 +73,9 @@ pub fn way_back(
         ])
     };
     let mut after = output.to_vec();
-    if let Some(number) = judge_refusal(BFS, mark, &plan, walk).or_else(refusal_after_judge) {
+    if let Some(number) =
+        judge_refusal(BFS, mark, &plan, NONE_BARRED, walk).or_else(refusal_after_judge)
+    {
         return (Err(number), after);
     }
     let path = path_to(&graph, walk, v as Vertex);

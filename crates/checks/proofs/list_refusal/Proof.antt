@@ -11,7 +11,7 @@ use lib.ListN.{drop}
 use native.Mathlib.Omega.{arith}
 use borrow.Author.Tests.{lt-ltb, le-ltb, eq-eqb, ne-eqb}
 use Rattle.searches.specs.Answer.{openTests, openTestsBarring, listTestsBarring, firstRefusal, number, refusalOf}
-use Rattle.checks.proofs.Tried.{Tried, tried-one, tried-first, refused-here, refused-before, accepted-here, rows-fit, entries-fit}
+use Rattle.checks.proofs.Tried.{Tried, tried-one, tried-first, refused-here, refused-before, rows-fit, entries-fit}
 use Rattle.checks.proofs.list_refusal.Statement.{statement}
 use Rattle.checks.proofs.list_refusal.Tie as tie
 

@@ -5,7 +5,9 @@
 use outside::calls::JudgeCall;
 use outside::carry_over::{pairs, smallest_witnesses, Example, Size, Table};
 use outside::carry_over::{CARRIES_OVER, WITNESSES};
-use outside::definition::{Kind, Mark, FAILED, KIND_NAMES, LEX_BFS, LEX_DFS, MCS, MNS};
+use outside::definition::{
+    Kind, Mark, FAILED, KIND_NAMES, LEX_BFS, LEX_DFS, MCS, MNS, NONE_BARRED,
+};
 
 use crate::comparison::Comparison;
 
@@ -88,6 +90,7 @@ fn compare_witness(
         kind,
         mark: Mark::TwoWay,
         plan: example.plan(),
+        barred: NONE_BARRED,
         walk: example.walk.to_vec(),
     };
     comparison.expect_judge(&call(from), 0);

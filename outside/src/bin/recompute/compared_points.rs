@@ -8,7 +8,7 @@ use std::process::exit;
 
 use outside::definition::open_walk::OpenWalk;
 use outside::definition::stance::{broken_promise, compare_each, Answer, Stance};
-use outside::definition::{Kind, KINDS, MARKS, MNS};
+use outside::definition::{Kind, KINDS, MARKS, MNS, NONE_BARRED};
 
 use crate::open_walks::number;
 use crate::printed;
@@ -33,7 +33,7 @@ const ANSWERS: [(&str, &str); 7] = [
 ];
 
 /// An answer as the program prints it.
-fn show(answer: Answer) -> String {
+pub fn show(answer: Answer) -> String {
     match answer {
         Ok(Stance::Ahead) => "a".to_string(),
         Ok(Stance::Behind) => "b".to_string(),
@@ -55,8 +55,9 @@ fn show_entries(entries: &[u64], used: usize) -> String {
     entries.iter().enumerate().map(shown).collect()
 }
 
-fn show_walk(walk: &OpenWalk) -> String {
-    let OpenWalk { kind, mark, n, rows, k, places } = walk;
+/// All but the barred set, which is empty in this program's open walks.
+pub fn show_walk(walk: &OpenWalk) -> String {
+    let OpenWalk { kind, mark, n, rows, k, places, .. } = walk;
     let rows = show_entries(rows, *n);
     let places = show_entries(&places.map(u64::from), *k);
     format!("{kind} {} {n} {k} |{rows} |{places}", number(*mark))
@@ -74,7 +75,7 @@ fn read_entries(text: &str) -> Option<[u64; MOST]> {
     Some(entries)
 }
 
-fn read_walk(line: &str) -> Option<OpenWalk> {
+pub fn read_walk(line: &str) -> Option<OpenWalk> {
     let parts: Vec<&str> = line.split('|').collect();
     let [head, rows, places] = parts[..] else { return None };
     let head: Vec<&str> = head.split_whitespace().collect();
@@ -86,6 +87,7 @@ fn read_walk(line: &str) -> Option<OpenWalk> {
         mark,
         n: n.parse().ok()?,
         rows: read_entries(rows)?,
+        barred: NONE_BARRED,
         k: k.parse().ok()?,
         places: places.into_iter().collect::<Option<Vec<u8>>>()?.try_into().ok()?,
     })
@@ -188,7 +190,7 @@ impl Lines {
     }
 }
 
-fn each_kind_and_mark() -> impl Iterator<Item = (Kind, u8)> {
+pub fn each_kind_and_mark() -> impl Iterator<Item = (Kind, u8)> {
     KINDS.into_iter().flat_map(|kind| MARKS.map(|mark| (kind, number(mark))))
 }
 

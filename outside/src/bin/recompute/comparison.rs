@@ -55,26 +55,26 @@ impl Comparison {
 
     /// The answer on which all three agree.
     pub fn judge(&mut self, call: &JudgeCall) -> u32 {
-        let JudgeCall { kind, mark, plan, walk } = call;
-        let defined = definition::judge(*kind, *mark, plan, walk);
+        let JudgeCall { kind, mark, plan, barred, walk } = call;
+        let defined = definition::judge(*kind, *mark, plan, *barred, walk);
         self.count(defined);
-        let answer = entry::guarded_judge(*kind, *mark, plan, walk)
+        let answer = entry::guarded_judge(*kind, *mark, plan, *barred, walk)
             .unwrap_or_else(|altered| self.differ(call, &[altered]));
-        let on_bits = (*mark == Mark::TwoWay).then(|| bitset::judge(*kind, plan, walk));
+        let on_bits = (*mark == Mark::TwoWay).then(|| bitset::judge(*kind, plan, *barred, walk));
         self.agree(call, &defined, &answer, on_bits, |answer| show(*answer));
         defined
     }
 
     /// The answer and the output on which all three agree.
     pub fn carry_on(&mut self, call: &CarryOnCall) -> (u32, Vec<u8>) {
-        let CarryOnCall { kind, mark, plan, tie_break, output, k } = call;
-        let defined = definition::carry_on(*kind, *mark, plan, tie_break, output, *k);
+        let CarryOnCall { kind, mark, plan, barred, tie_break, output, k } = call;
+        let defined = definition::carry_on(*kind, *mark, plan, *barred, tie_break, output, *k);
         self.count(defined.0);
-        let answer = entry::guarded_carry_on(*kind, *mark, plan, tie_break, output, *k)
+        let answer = entry::guarded_carry_on(*kind, *mark, plan, *barred, tie_break, output, *k)
             .unwrap_or_else(|altered| self.differ(call, &[altered]));
         let on_bits = (*mark == Mark::TwoWay).then(|| {
             let mut written = output.clone();
-            (bitset::carry_on(*kind, plan, tie_break, &mut written, *k), written)
+            (bitset::carry_on(*kind, plan, *barred, tie_break, &mut written, *k), written)
         });
         self.agree(call, &defined, &answer, on_bits, show_output);
         defined

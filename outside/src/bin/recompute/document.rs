@@ -3,7 +3,7 @@
 //! Its points run from 1; here each is one less.
 
 use outside::calls::JudgeCall;
-use outside::definition::{Kind, Mark, BFS, DFS, GENERIC, LEX_BFS, LEX_DFS, MNS};
+use outside::definition::{Kind, Mark, BFS, DFS, GENERIC, LEX_BFS, LEX_DFS, MNS, NONE_BARRED};
 use outside::graphs::plan;
 use outside::orderings::permutations;
 
@@ -66,9 +66,13 @@ fn renumbered(size: usize, links: &[(usize, usize)]) -> Vec<u8> {
     plan(size, &links)
 }
 
+fn judge_call(kind: Kind, plan: &[u8], walk: Vec<u8>) -> JudgeCall {
+    JudgeCall { kind, mark: Mark::TwoWay, plan: plan.to_vec(), barred: NONE_BARRED, walk }
+}
+
 fn compare_claim(comparison: &mut Comparison, plan: &[u8], claim: &Claim) {
     let walk = claim.ordering.iter().map(|v| v - 1).collect();
-    let call = JudgeCall { kind: claim.kind, mark: Mark::TwoWay, plan: plan.to_vec(), walk };
+    let call = judge_call(claim.kind, plan, walk);
     if (comparison.judge(&call) == 0) != claim.holds {
         let found = format!("document 001 says that this passes: {}", claim.holds);
         comparison.differ(&call, &[found]);
@@ -94,7 +98,7 @@ pub fn compare() -> u64 {
 fn only_continuations(comparison: &mut Comparison, sun: &[u8]) {
     let full = permutations(6).into_iter();
     for walk in full.filter(|walk| walk.starts_with(&[0, 1])) {
-        let call = JudgeCall { kind: LEX_DFS, mark: Mark::TwoWay, plan: sun.to_vec(), walk };
+        let call = judge_call(LEX_DFS, sun, walk);
         let only = call.walk == [0, 1, 2, 4, 5, 3];
         if (comparison.judge(&call) == 0) != only {
             let found = "document 001 has 1, 2, 3, 5, 6, 4 as the only LexDFS after 1, 2";

@@ -1,9 +1,9 @@
 //! Group a: the examples of 01, with its answers. What it says of "all", "the rest" or "the others" holds of MCS too.
-//! Then examples on one-way plans, worked out by hand.
+//! Then examples on one-way plans and with points out of service, worked out by hand.
 
 use outside::calls::{CarryOnCall, JudgeCall};
 use outside::definition::{
-    failure_code, Kind, Mark, BFS, DFS, GENERIC, KINDS, LEX_BFS, LEX_DFS, MCS, MNS,
+    failure_code, Kind, Mark, BFS, DFS, GENERIC, KINDS, LEX_BFS, LEX_DFS, MCS, MNS, NONE_BARRED,
 };
 use outside::graphs::{one_way_plan, plan};
 
@@ -97,27 +97,60 @@ const ONE_WAY: [Example; 9] = [
     },
 ];
 
+/// A set of barred points, and what is walked and answered without them.
+const BARRED: [(u64, Example); 8] = [
+    // P without 1 is 0-2 and 3.
+    (1 << 1, Example { size: 4, links: P, walk: &[0, 2, 3], failing: &[], triple: (0, 0, 0) }),
+    (1 << 1, Example { size: 4, links: P, walk: &[0, 3], failing: &KINDS, triple: (0, 3, 2) }),
+    // C without 3 is the path 0, 1, 2; without 1 it is the path 0, 3, 2.
+    (1 << 3, Example { size: 4, links: C, walk: &[0, 1, 2], failing: &[], triple: (0, 0, 0) }),
+    (1 << 3, Example { size: 4, links: C, walk: &[0, 2], failing: &KINDS, triple: (0, 2, 1) }),
+    (1 << 1, Example { size: 4, links: C, walk: &[0, 2], failing: &KINDS, triple: (0, 2, 3) }),
+    // Opposite points have no link.
+    (0b1010, Example { size: 4, links: C, walk: &[2, 0], failing: &[], triple: (0, 0, 0) }),
+    (0b1111, Example { size: 4, links: C, walk: &[], failing: &[], triple: (0, 0, 0) }),
+    // For MCS: before 2 is placed, 1 has two neighbours that are placed; 2 has one, and one that is barred.
+    (
+        1 << 4,
+        Example {
+            size: 5,
+            links: &[(0, 1), (0, 2), (0, 3), (1, 3), (2, 4)],
+            walk: &[0, 3, 2],
+            failing: &[DFS, LEX_BFS, LEX_DFS, MNS, MCS],
+            triple: (3, 2, 1),
+        },
+    ),
+];
+
 pub fn compare() -> u64 {
     let mut comparison = Comparison::new("a, examples of 01");
+    let (two_way, none) = (Mark::TwoWay, NONE_BARRED);
     for example in &EXAMPLES {
-        judge(&mut comparison, Mark::TwoWay, plan(example.size, example.links), example);
+        judge(&mut comparison, two_way, plan(example.size, example.links), none, example);
     }
     preferences(&mut comparison);
     sizes(&mut comparison);
     full_starts(&mut comparison);
     let mut one_way = Comparison::new("a, examples on one-way plans");
     for example in &ONE_WAY {
-        judge(&mut one_way, Mark::OneWay, one_way_plan(example.size, example.links), example);
+        let plan = one_way_plan(example.size, example.links);
+        judge(&mut one_way, Mark::OneWay, plan, none, example);
     }
     round(&mut one_way);
-    comparison.finish() + one_way.finish()
+    let mut barred = Comparison::new("a, examples with points out of service");
+    for (set, example) in &BARRED {
+        judge(&mut barred, two_way, plan(example.size, example.links), *set, example);
+    }
+    passed_over(&mut barred);
+    comparison.finish() + one_way.finish() + barred.finish()
 }
 
-fn judge(comparison: &mut Comparison, mark: Mark, plan: Vec<u8>, example: &Example) {
+fn judge(comparison: &mut Comparison, mark: Mark, plan: Vec<u8>, barred: u64, example: &Example) {
     let (a, b, c) = example.triple;
     for kind in KINDS {
         let fails = example.failing.contains(&kind);
-        let call = JudgeCall { kind, mark, plan: plan.clone(), walk: example.walk.to_vec() };
+        let (plan, walk) = (plan.clone(), example.walk.to_vec());
+        let call = JudgeCall { kind, mark, plan, barred, walk };
         comparison.expect_judge(&call, if fails { failure_code(a, b, c) } else { 0 });
     }
 }
@@ -129,11 +162,30 @@ fn round(comparison: &mut Comparison) {
             kind,
             mark: Mark::OneWay,
             plan: one_way_plan(4, ROUND),
+            barred: NONE_BARRED,
             tie_break: vec![0, 1, 2, 3],
             output: vec![77; 4],
             k: 0,
         };
         comparison.expect_carry_on(&call, (0, vec![3, 0, 1, 2]));
+    }
+}
+
+/// Barred points of the preference list are passed over, and the places for them stay. After 2, only 1 may be next.
+fn passed_over(comparison: &mut Comparison) {
+    for (kind, k) in KINDS.into_iter().flat_map(|kind| [0, 1, 3].map(|k| (kind, k))) {
+        let mut output = vec![2, 1, 0, 77, 78];
+        output[k..3].fill(76);
+        let call = CarryOnCall {
+            kind,
+            mark: Mark::TwoWay,
+            plan: plan(4, C),
+            barred: 1 << 3,
+            tie_break: vec![1, 0, 2, 3],
+            output,
+            k,
+        };
+        comparison.expect_carry_on(&call, (0, vec![2, 1, 0, 77, 78]));
     }
 }
 
@@ -144,6 +196,7 @@ fn preferences(comparison: &mut Comparison) {
             kind,
             mark: Mark::TwoWay,
             plan: plan(4, C),
+            barred: NONE_BARRED,
             tie_break: vec![3, 2, 1, 0],
             output: vec![77; 4],
             k: 0,
@@ -156,17 +209,17 @@ fn preferences(comparison: &mut Comparison) {
 fn sizes(comparison: &mut Comparison) {
     let chain: Vec<(usize, usize)> = (1..64).map(|v| (v - 1, v)).collect();
     let straight: Vec<u8> = (0..64).collect();
-    let mark = Mark::TwoWay;
     for kind in KINDS {
-        let empty = JudgeCall { kind, mark, plan: Vec::new(), walk: Vec::new() };
+        let (mark, barred) = (Mark::TwoWay, NONE_BARRED);
+        let empty = JudgeCall { kind, mark, plan: Vec::new(), barred, walk: Vec::new() };
         comparison.expect_judge(&empty, 0);
-        let full = JudgeCall { kind, mark, plan: plan(64, &chain), walk: straight.clone() };
+        let full = JudgeCall { kind, mark, plan: plan(64, &chain), barred, walk: straight.clone() };
         comparison.expect_judge(&full, 0);
         let mut jump = straight[..62].to_vec();
         jump.push(63);
         let jump = JudgeCall { walk: jump, ..full };
         comparison.expect_judge(&jump, failure_code(61, 63, 62));
-        let too_large = JudgeCall { kind, mark, plan: vec![0; 8 * 65], walk: Vec::new() };
+        let too_large = JudgeCall { kind, mark, plan: vec![0; 8 * 65], barred, walk: Vec::new() };
         comparison.expect_judge(&too_large, 2);
     }
 }
@@ -182,21 +235,21 @@ fn full_starts(comparison: &mut Comparison) {
         (MNS, [0, 1, 2, 3]),
         (MCS, [0, 1, 2, 3]),
     ];
-    let mark = Mark::TwoWay;
+    let (mark, barred) = (Mark::TwoWay, NONE_BARRED);
     for (kind, start) in starts {
         for beyond in [0, 3] {
             let mut output = start.to_vec();
             output.resize(4 + beyond, 77);
             let unchanged = output.clone();
             let (plan, tie_break) = (plan(4, C), vec![3, 2, 1, 0]);
-            let call = CarryOnCall { kind, mark, plan, tie_break, output, k: 4 };
+            let call = CarryOnCall { kind, mark, plan, barred, tie_break, output, k: 4 };
             comparison.expect_carry_on(&call, (0, unchanged));
         }
     }
     let none = Vec::new;
     for kind in KINDS {
-        let call =
-            CarryOnCall { kind, mark, plan: none(), tie_break: none(), output: none(), k: 0 };
+        let (plan, tie_break, output) = (none(), none(), none());
+        let call = CarryOnCall { kind, mark, plan, barred, tie_break, output, k: 0 };
         comparison.expect_carry_on(&call, (0, none()));
     }
 }

@@ -1,8 +1,8 @@
 //! Recomputes the library's answers from 01 and 02, and stops at the first that differs.
 //!
-//!   a   the examples of 01, and some on one-way plans
+//!   a   the examples of 01, some on one-way plans, and some with points out of service
 //!   b   the orderings that document 001 names
-//!   c   all small plans, two-way and one-way
+//!   c   all small plans, two-way and one-way, with nothing barred
 //!   d   random plans of either mark, walks and damaged inputs from a fixed seed
 //!   e   the open walks that a program of the library plays
 //!   f   the sheets that a program of the library judges
@@ -11,7 +11,11 @@
 //!   i   the same calls under either mark of a plan
 //!   j   the ways back that a program of the library finds
 //!   k   the comparisons that a program of the library makes
+//!   l   points out of service, and several faults at once
+//!   m   the open walks with points out of service that a program of the library plays
 
+mod barred;
+mod barred_walks;
 mod carry_over;
 mod charged_walks;
 mod compared_points;
@@ -19,6 +23,7 @@ mod comparison;
 mod document;
 mod either_mark;
 mod examples;
+mod faults;
 mod open_walks;
 mod printed;
 mod random_calls;
@@ -37,6 +42,9 @@ fn main() {
         + charged_walks::compare()
         + either_mark::compare()
         + ways_back::compare()
-        + compared_points::compare();
+        + compared_points::compare()
+        + barred::compare()
+        + faults::compare()
+        + barred_walks::compare();
     println!("all {calls} calls agree");
 }

@@ -1,9 +1,10 @@
-//! Group e: what the program of the crate `open_walks` prints, line by line. The list of calls is the program's.
+//! Group e: what the program of the crate `open_walks` prints, line by line. The list of calls is the program's. Nothing
+//! is barred in any of them.
 
 use std::fmt::Write;
 
 use outside::definition::open_walk::OpenWalk;
-use outside::definition::{Kind, Mark, KINDS, MARKS, MCS};
+use outside::definition::{Kind, Mark, KINDS, MARKS, MCS, NONE_BARRED};
 
 use crate::printed;
 
@@ -61,13 +62,14 @@ impl Lines {
     }
 
     fn play(&mut self, kind: Kind, mark: Mark, rows: &[u64]) {
-        let (opened, _) = OpenWalk::open(kind, mark, rows);
+        let (opened, _) = OpenWalk::open(kind, mark, rows, NONE_BARRED);
         CALLS.iter().fold(opened, |walk, &call| self.step(walk, call));
     }
 
     fn made(&mut self, kind: Kind, mark: Mark, list: &[Made]) {
         for &(n, k, first_row, last_row, first, second, last) in list {
-            let mut walk = OpenWalk { kind, mark, n, rows: [0; 64], k, places: [0; 64] };
+            let (rows, places) = ([0; 64], [0; 64]);
+            let mut walk = OpenWalk { kind, mark, n, rows, barred: NONE_BARRED, k, places };
             walk.rows[..4].copy_from_slice(&RING);
             walk.rows[0] = first_row;
             walk.rows[63] = last_row;
@@ -79,7 +81,7 @@ impl Lines {
     }
 
     fn open(&mut self, kind: Kind, mark: Mark, rows: &[u64]) {
-        let (walk, answer) = OpenWalk::open(kind, mark, rows);
+        let (walk, answer) = OpenWalk::open(kind, mark, rows, NONE_BARRED);
         self.text += &format!("{kind} {} {answer}", number(mark));
         self.show(&walk);
         let next = self.step(walk, 0);

@@ -1,5 +1,7 @@
-//! Group d: random calls from a fixed seed, sound and damaged, on two-way and on one-way plans.
+//! Group d: random calls from a fixed seed, sound and damaged, on two-way and on one-way plans, mostly with barred
+//! points.
 
+use outside::barred_sets;
 use outside::calls::{
     damage_carry_on, damage_judge, random_carry_on, random_judge, CarryOnCall, JudgeCall,
 };
@@ -17,15 +19,15 @@ const ENOUGH: u64 = 200;
 pub fn compare() -> u64 {
     let two_way = ["d, random walks judged", "d, random walks carried on"];
     let (calls, judged, carried) = compare_marked(Mark::TwoWay, 20_230_917, two_way);
-    judged.coverage("judge", &[0, 1, 2, 3, 4, 5, 6, 8, 9, FAILED], ENOUGH);
-    carried.coverage("carry-on", &[0, 1, 2, 3, 4, 5, 6, 7, 8, 9, 10, 12], ENOUGH);
+    judged.coverage("judge", &[0, 1, 2, 3, 4, 5, 6, 8, 9, 23, 24, FAILED], ENOUGH);
+    carried.coverage("carry-on", &[0, 1, 2, 3, 4, 5, 6, 7, 8, 9, 10, 12, 23, 24], ENOUGH);
     let one_way = [
         "d, random walks over one-way plans judged",
         "d, random walks over one-way plans carried on",
     ];
     let (one_way_calls, judged, carried) = compare_marked(Mark::OneWay, 20_230_921, one_way);
-    judged.coverage("judge", &[0, 1, 2, 3, 4, 6, 8, 9, FAILED], ENOUGH);
-    carried.coverage("carry-on", &[0, 1, 2, 3, 4, 6, 7, 8, 9, 10, 12], ENOUGH);
+    judged.coverage("judge", &[0, 1, 2, 3, 4, 6, 8, 9, 23, 24, FAILED], ENOUGH);
+    carried.coverage("carry-on", &[0, 1, 2, 3, 4, 6, 7, 8, 9, 10, 12, 23, 24], ENOUGH);
     calls + one_way_calls
 }
 
@@ -38,7 +40,7 @@ fn compare_marked(
     let mut random = Random::new(seed);
     let [mut judged, mut carried] = groups.map(Comparison::new);
     for _ in 0..ROUNDS {
-        let call = random_judge(&mut random, mark);
+        let call = random_judge(&mut random, mark, barred_sets::any);
         judged.judge(&call);
         judge_damaged(&mut random, &mut judged, call);
         let call = random_carry_on(&mut random, mark);
@@ -58,12 +60,12 @@ fn carry_on_damaged(random: &mut Random, carried: &mut Comparison, mut call: Car
     carried.carry_on(&call);
 }
 
-/// What a carry-on reached is a full walk that passes.
+/// What a carry-on reached is a walk over all points that are not barred, and it passes.
 fn carry_on_and_judge(judged: &mut Comparison, carried: &mut Comparison, call: &CarryOnCall) {
     let (answer, output) = carried.carry_on(call);
     if answer == 0 {
-        let walk = output[..call.plan.len() / 8].to_vec();
-        let CarryOnCall { kind, mark, plan, .. } = call.clone();
-        judged.expect_judge(&JudgeCall { kind, mark, plan, walk }, 0);
+        let CarryOnCall { kind, mark, plan, barred, .. } = call.clone();
+        let walk = output[..plan.len() / 8 - barred.count_ones() as usize].to_vec();
+        judged.expect_judge(&JudgeCall { kind, mark, plan, barred, walk }, 0);
     }
 }

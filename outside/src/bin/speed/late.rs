@@ -1,6 +1,6 @@
 //! Walks over all points that fail as late as such a walk can: at the second last point.
 
-use outside::definition::FAILED;
+use outside::definition::{FAILED, NONE_BARRED};
 use outside::random::Random;
 use outside::{bitset, graphs};
 
@@ -25,7 +25,7 @@ fn swapped_run(random: &mut Random, case: &Case) -> Input {
     let plan = case.plan(random);
     let tie_break = random.permutation(case.n);
     let mut walk = vec![0; case.n];
-    let answer = bitset::carry_on(case.kind, &plan, &tie_break, &mut walk, 0);
+    let answer = bitset::carry_on(case.kind, &plan, NONE_BARRED, &tie_break, &mut walk, 0);
     assert_eq!(answer, 0);
     walk.swap(case.n - 2, case.n - 1);
     Input { kind: case.kind, plan, walk, tie_break }
@@ -34,7 +34,7 @@ fn swapped_run(random: &mut Random, case: &Case) -> Input {
 /// The walk fails at its second last point.
 fn fails(input: &Input) -> bool {
     let b = input.walk[input.walk.len() - 2];
-    let answer = bitset::judge(input.kind, &input.plan, &input.walk);
+    let answer = bitset::judge(input.kind, &input.plan, NONE_BARRED, &input.walk);
     answer >= FAILED && answer.to_le_bytes()[1] == b
 }
 

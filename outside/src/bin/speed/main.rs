@@ -2,6 +2,7 @@
 //!
 //! Prints a markdown table for each set of inputs: nanoseconds for one call,
 //! the best of several rounds in which the two take turns, and the ratio.
+//! No point is barred.
 //!
 //!   inputs   plans with their walks and preference lists
 //!   late     walks that fail at the second last point

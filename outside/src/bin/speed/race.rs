@@ -3,7 +3,7 @@
 use std::hint::black_box;
 use std::time::{Duration, Instant};
 
-use outside::definition::Kind;
+use outside::definition::{Kind, NONE_BARRED};
 use outside::{bitset, entry};
 
 use crate::inputs::Input;
@@ -11,10 +11,16 @@ use crate::inputs::Input;
 const ROUNDS: usize = 40;
 const ROUND_TIME: Duration = Duration::from_micros(1500);
 
+/// Kind, plan, barred points, walk.
+type Judge = fn(Kind, &[u8], u64, &[u8]) -> u32;
+
+/// Kind, plan, barred points, preference list, output list, k.
+type CarryOn = fn(Kind, &[u8], u64, &[u8], &mut [u8], usize) -> u32;
+
 /// One implementation of the two calls.
 pub struct Implementation {
-    judge: fn(Kind, &[u8], &[u8]) -> u32,
-    carry_on: fn(Kind, &[u8], &[u8], &mut [u8], usize) -> u32,
+    judge: Judge,
+    carry_on: CarryOn,
 }
 
 pub const LIBRARY: Implementation =
@@ -26,7 +32,8 @@ impl Implementation {
     /// The walk that carry-on makes from nothing.
     fn carried_on(&self, input: &Input) -> Vec<u8> {
         let mut output = vec![0; input.walk.len()];
-        assert_eq!((self.carry_on)(input.kind, &input.plan, &input.tie_break, &mut output, 0), 0);
+        let Input { kind, plan, tie_break, .. } = input;
+        assert_eq!((self.carry_on)(*kind, plan, NONE_BARRED, tie_break, &mut output, 0), 0);
         output
     }
 }
@@ -34,7 +41,8 @@ impl Implementation {
 /// The two implementations agree on every input, and judge's answer is as expected.
 pub fn check(inputs: &[Input], expected: fn(u32) -> bool) {
     for input in inputs {
-        let judged = |by: &Implementation| (by.judge)(input.kind, &input.plan, &input.walk);
+        let Input { kind, plan, walk, .. } = input;
+        let judged = |by: &Implementation| (by.judge)(*kind, plan, NONE_BARRED, walk);
         assert!(expected(judged(&LIBRARY)));
         assert_eq!(judged(&LIBRARY), judged(&BIT_SETS));
         assert_eq!(LIBRARY.carried_on(input), BIT_SETS.carried_on(input));
@@ -47,7 +55,7 @@ pub type Pass = fn(&Implementation, &[Input]);
 pub fn judge_all(by: &Implementation, inputs: &[Input]) {
     for input in inputs {
         let Input { kind, plan, walk, .. } = black_box(input);
-        black_box((by.judge)(*kind, plan, walk));
+        black_box((by.judge)(*kind, plan, NONE_BARRED, walk));
     }
 }
 
@@ -57,7 +65,7 @@ pub fn carry_on_all(by: &Implementation, inputs: &[Input]) {
     for input in inputs {
         let Input { kind, plan, walk, tie_break } = black_box(input);
         let output = black_box(&mut buffer[..walk.len()]);
-        black_box((by.carry_on)(*kind, plan, tie_break, output, 0));
+        black_box((by.carry_on)(*kind, plan, NONE_BARRED, tie_break, output, 0));
     }
 }
 

@@ -1,9 +1,11 @@
 use super::Stance::{Ahead, Behind, Level, Neither};
 use super::*;
-use crate::definition::{Mark, KINDS, MARKS};
+use crate::definition::{Graph, Mark, KINDS, MARKS, NONE_BARRED};
 use crate::graphs;
 use crate::orderings;
 use crate::random::Random;
+
+mod barred;
 
 // The links 0-1, 0-2, 1-3.
 const TREE: [u64; 4] = [6, 9, 1, 2];
@@ -19,7 +21,7 @@ fn stances(c: &[Position], b: &[Position]) -> [Stance; 7] {
 }
 
 fn made(kind: Kind, mark: Mark, rows: &[u64], walk: &[u8]) -> OpenWalk {
-    let (mut made, answer) = OpenWalk::open(kind, mark, rows);
+    let (mut made, answer) = OpenWalk::open(kind, mark, rows, NONE_BARRED);
     assert_eq!(answer, 0);
     made.k = walk.len();
     made.places[..walk.len()].copy_from_slice(walk);
@@ -127,7 +129,7 @@ fn compare_refuses_in_order() {
             }
         }
     }
-    let (nothing, _) = OpenWalk::open(GENERIC, Mark::TwoWay, &[]);
+    let (nothing, _) = OpenWalk::open(GENERIC, Mark::TwoWay, &[], NONE_BARRED);
     assert_eq!(compare(&nothing, 0, 0), Err(8));
     // All placed.
     let full = made(GENERIC, Mark::TwoWay, &TREE, &[0, 1, 2, 3]);

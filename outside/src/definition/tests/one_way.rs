@@ -5,6 +5,23 @@ use crate::definition::*;
 use crate::graphs::{all_plans, goes_both_ways, one_way_plan, plan};
 use crate::orderings::{all_partial, permutations};
 
+/// With nothing barred.
+fn judge(kind: Kind, mark: Mark, plan: &[u8], walk: &[u8]) -> u32 {
+    crate::definition::judge(kind, mark, plan, NONE_BARRED, walk)
+}
+
+/// With nothing barred.
+fn carry_on(
+    kind: Kind,
+    mark: Mark,
+    plan: &[u8],
+    tie_break: &[u8],
+    output: &[u8],
+    k: usize,
+) -> (u32, Vec<u8>) {
+    crate::definition::carry_on(kind, mark, plan, NONE_BARRED, tie_break, output, k)
+}
+
 fn judge_each(plan: &[u8], walk: &[u8]) -> [u32; 7] {
     KINDS.map(|kind| judge(kind, Mark::OneWay, plan, walk))
 }
