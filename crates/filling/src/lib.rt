@@ -11,8 +11,8 @@ ghost use Rattle.bitset.specs.Word.{member};
 ghost use Rattle.searches.specs.Kind.{searchOf};
 ghost use Rattle.filling.specs.Fill.{fillIn, Fillable};
 
-// Writes the unplaced vertices into `tail` as they carry on from position `k`; the first bytes of `tail` are the positions from `k` on; `labels`, `smallest`, `largest`,
-// `weights` and `stage` are those after the first `k`. `columns` are the rows, transposed.
+// Writes the unplaced vertices to the front of `tail`, in the order in which they carry on from position `k`, with which `tail` begins. `labels`, `smallest`,
+// `largest`, `weights` and `stage` are those after the first `k`. `columns` are the rows, transposed.
 pub fn fill(
     kind: Kind,
     rows: &[u64],

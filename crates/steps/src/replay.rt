@@ -16,9 +16,9 @@ pub struct Replayed {
     pub stage: Stage,
 }
 
-// Places the first `k` vertices of `ordering` up to the first that was not offered; nobody of `barred` is ever unplaced. `labels` comes in empty, `smallest` and `largest` without a
-// position (64 and 0), `weights` with zeros; they go out with the labels, the running values and the weights of that moment. `columns` are the rows,
-// transposed.
+// Places the first `k` vertices of `ordering` up to the first that was not offered. No vertex of `barred` is ever unplaced, so nobody is compared with one.
+// `labels` comes in empty, `smallest` and `largest` without a position (64 and 0), `weights` with zeros; they go out with the labels, the running values and
+// the weights of that moment. `columns` are the rows, transposed.
 pub fn replay(
     kind: Kind,
     rows: &[u64],

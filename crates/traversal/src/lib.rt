@@ -1,5 +1,5 @@
-// The open walk: a graph with its mark and its barred vertices, a kind of search, and an ordering that grows and shrinks by one vertex. It is a state by value: each call takes it,
-// and hands it back with the answer. Its fields may hold anything; what is not well formed is refused, and handed back as it came.
+// The open walk: a graph with its mark and its barred vertices, a kind of search, and an ordering that grows and shrinks by one vertex. It is a state by value:
+// each call takes it, and hands it back with the answer. Its fields may hold anything; what is not well formed is refused, and handed back as it came.
 mod comparison;
 mod refusals;
 mod survey;

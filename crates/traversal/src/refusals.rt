@@ -29,6 +29,7 @@ pub fn place_refusal(
     if !moment.passes {
         return Outcome::Refused(Refusal::MalformedTraversal);
     }
+    // all that are not barred are placed
     if moment.free == 0 {
         return Outcome::Refused(Refusal::AllPlaced);
     }
