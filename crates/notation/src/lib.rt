@@ -1,4 +1,6 @@
-// What the programs that play calls share: printing numbers, plans and walks of at most eight points written as one number, and 64 points in a row.
+// What the programs that play calls share: printing numbers, rows, places and comparisons, plans and walks of at most eight points written as one number,
+// and 64 points in a row.
+use searches::Comparison;
 use searches::Mark;
 
 // Prints one byte.
@@ -21,9 +23,52 @@ pub fn number(mark: Mark) -> u64 {
     }
 }
 
+// The letter that is printed for a comparison.
+pub fn letter(answer: Comparison) -> u8 {
+    match answer {
+        Comparison::Ahead => b'a',
+        Comparison::Behind => b'b',
+        Comparison::Level => b'l',
+        Comparison::Neither => b'n',
+    }
+}
+
 // A byte as a number that can be printed.
 pub fn wide(byte: u8) -> u64 {
     byte as u64
+}
+
+// Prints a space and a bar: before a list or a set.
+pub fn show_bar() {
+    put(b' ');
+    put(b'|');
+}
+
+// The row or the place with the number p, of which so many are used.
+fn show_entry(entry: u64, used: usize, p: usize) {
+    if p < used {
+        show(entry);
+    } else if entry != 0 {
+        show(p as u64);
+        put(b':');
+        io::print_decimal(1, entry);
+    }
+}
+
+// Prints n rows, and those behind them that are not 0, each with its number.
+pub fn show_rows(rows: [u64; 64], n: usize) {
+    show_bar();
+    for p in 0..64 {
+        show_entry(rows[p], n, p);
+    }
+}
+
+// Prints k places, and those behind them that are not 0, each with its number.
+pub fn show_places(places: [u8; 64], k: usize) {
+    show_bar();
+    for p in 0..64 {
+        show_entry(wide(places[p]), k, p);
+    }
 }
 
 // The rows of a plan that is written as sixteen hexadecimal digits, two for each row, from the first on. The rows after these eight are 0.

@@ -1,9 +1,9 @@
--- `compared_points::lines::show_rows` reads rows that are there.
+-- `notation::show_rows` reads rows that are there.
 -- Assumes nothing.
 use Prim.Native.Nat.{_≤_, _-_}
 use borrow.Author.Needs.{needs}
-use Rattle.compared_points.proofs.lines.show_rows.Statement.{statement}
-use Rattle.compared_points.proofs.lines.show_rows.Tie as tie
+use Rattle.notation.proofs.show_rows.Statement.{statement}
+use Rattle.notation.proofs.show_rows.Tie as tie
 
 abbrev Inv-loop : tie.InvT-loop
 Inv-loop n rows p₀ p = p ≤ 64
@@ -17,7 +17,6 @@ show-rows-spec =
     (tie.spec
     Inv-loop
     μ-loop
-    (λ c κs. search needs)
     (λ c κs. search needs)
     (λ c. search needs)
     (λ c. search needs)

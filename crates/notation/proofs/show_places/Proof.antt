@@ -1,9 +1,9 @@
--- `compared_points::lines::show_places` reads places that are there.
+-- `notation::show_places` reads places that are there.
 -- Assumes nothing.
 use Prim.Native.Nat.{_≤_, _-_}
 use borrow.Author.Needs.{needs}
-use Rattle.compared_points.proofs.lines.show_places.Statement.{statement}
-use Rattle.compared_points.proofs.lines.show_places.Tie as tie
+use Rattle.notation.proofs.show_places.Statement.{statement}
+use Rattle.notation.proofs.show_places.Tie as tie
 
 abbrev Inv-loop : tie.InvT-loop
 Inv-loop k places p₀ p = p ≤ 64
@@ -17,7 +17,6 @@ show-places-spec =
     (tie.spec
     Inv-loop
     μ-loop
-    (λ c κs. search needs)
     (λ c κs. search needs)
     (λ c. search needs)
     (λ c. search needs)
