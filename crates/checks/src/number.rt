@@ -32,5 +32,6 @@ pub fn number(refusal: Refusal) -> u32
         Refusal::NotPlaced => 22,
         Refusal::BarredOutOfRange => 23,
         Refusal::BarredVertex => 24,
+        Refusal::OneWayGraph => 25,
     }
 }

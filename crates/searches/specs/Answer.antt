@@ -13,6 +13,7 @@
 --   openTestsBarring, judgeTestsBarring, listTestsBarring, carryOnTestsBarring   what is refused where vertices are barred: on the whole graph     [02: K8]
 --   openBarring, judgeBarring, carryOnBarring, outputBarring   what is answered, and left in the output list, where vertices are barred: that of
 --                                        the graph without them                                              [02: K8]
+--   twoWayTests mark rows                what is refused where only a two-way graph is accepted               [02: K9]
 --   number, verdictOf, refusalOf         a refusal, a judgement and an outcome of the code as the papers' number and values
 use Prim.Native.Nat.{ℕ, _<_}
 use mathlib.Core.Path.{_≡_}
@@ -191,6 +192,17 @@ module _ (kind : ℕ) (mark : Mark) (rows : List ℕ) (barred : ℕ) (t out : Li
         | some r ↦ out
       ]
 
+-- ---- where only a two-way graph is accepted
+
+unfoldable pub twoWayTests : Mark → List ℕ → List (ℕ × Bool)
+twoWayTests mark rows =
+    (2, ltb 64 (length rows))
+    ∷ (3, bitOutside rows)
+    ∷ (4, selfLoop rows)
+    ∷ (25, not (isTwoWay mark))
+    ∷ (5, oneWay rows)
+    ∷ []
+
 unfoldable pub number : Refusal → ℕ
 number Refusal.UnknownKind = 1
 number Refusal.TooManyVertices = 2
@@ -216,6 +228,7 @@ number Refusal.NotBreadthFirst = 21
 number Refusal.NotPlaced = 22
 number Refusal.BarredOutOfRange = 23
 number Refusal.BarredVertex = 24
+number Refusal.OneWayGraph = 25
 
 unfoldable pub verdictOf : Judgement → Verdict
 verdictOf Judgement.Passes = passes

@@ -100,6 +100,8 @@ pub enum Refusal {
     BarredOutOfRange,
     // 24
     BarredVertex,
+    // 25
+    OneWayGraph,
 }
 
 // What judging an ordering answers.

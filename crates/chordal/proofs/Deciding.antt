@@ -1,0 +1,69 @@
+-- What is decided from a LexDFS ordering, and what the tests of the call say of the graph.
+--   valid              a graph that is not refused is a valid two-way graph, and the output list has room
+--   gap-found          the positions that the code finds are a gap
+--   cycle-shown        what is written from a gap is what is to be shown
+--   order-shown        and so are the vertices turned round where there is none
+-- Assumes nothing.
+use Prim.Native.Nat.{ℕ, _≤_, _<_}
+use mathlib.Core.Path.{_≡_, sym, subst}
+use mathlib.Core.Logic.{_⊎_, inl, inr}
+use mathlib.Core.List.{List, _++_}
+use native.Mathlib.Omega.{arith}
+use lib.Dec.{lt→ltb}
+use lib.ListN.{length, drop}
+use Rattle.bitset.proofs.Tests.{below-or}
+use Rattle.bitset.proofs.Passed.{none-found}
+use Rattle.searches.specs.Kind.{lexDfs, kindOf}
+use Rattle.searches.specs.Ordering.{arcs}
+use Rattle.searches.specs.Answer.{isTwoWay, openTests, twoWayTests, Accepts}
+use Rattle.searches.specs.declared.Mark.{Mark}
+use Rattle.chordal.specs.Descent.{Gap, isTop, firstLow, firstMiddle, firstTop, cycleLength, listed, cycleOf, turned}
+use Rattle.chordal.specs.Lists.{Ordered, Descendable}
+use Rattle.chordal.specs.Chordal.{IsChordlessCycle}
+use Rattle.chordal.specs.Answer.{chordalTests, chordal, cycle, Shown}
+use Rattle.chordal.proofs.Descent as descent
+use Rattle.chordal.proofs.Elimination.{no-cycle, first-gap, eliminates}
+use Rattle.chordal.proofs.Listing.{Filled, filled-length, filled-at, filled-behind}
+use Rattle.chordal.proofs.Writing.{vertexOf}
+
+pub valid : (mark : Mark) (rows : List ℕ) (room : ℕ) → Accepts (chordalTests mark rows room) → Accepts (openTests (kindOf lexDfs) Mark.TwoWay rows) × (length rows ≤ room)
+unfolding chordalTests twoWayTests openTests isTwoWay kindOf
+valid mark rows room a = ((λ t. t, (a .0, (a .1 .0, (a .1 .1 .0, (a .1 .1 .1 .1 .0, tt))))), go (below-or room (length rows)))
+  where
+    go : (room < length rows) ⊎ (length rows ≤ room) → length rows ≤ room
+    go (inl l) = absurd (a .1 .1 .1 .1 .1 .0 (lt→ltb room (length rows) l))
+    go (inr l) = l
+
+module _ (rows w before : List ℕ) (ordered : Ordered rows w) (room : length rows ≤ length before) where
+  pub gap-found : {i j l : ℕ} → l ≡ firstTop (arcs rows) w (length rows) → l < length rows → j ≡ firstMiddle (arcs rows) w l → i ≡ firstLow (arcs rows) w l j
+      → Descendable rows w before i j l
+  gap-found {i} {j} {l} top inside middle low = record {
+    ordered = ordered;
+    gap =
+        subst (λ (x : ℕ). Gap (arcs rows) w (length rows) x j l) (sym low)
+        (subst (λ (x : ℕ). Gap (arcs rows) w (length rows) (firstLow (arcs rows) w l x) x l) (sym middle)
+        (first-gap (arcs rows) (length rows) (ordered .both-ways) w l top inside));
+    room = room;
+  }
+
+  pub cycle-shown : {i j l m : ℕ} {after : List ℕ} → Gap (arcs rows) w (length rows) i j l → m ≡ cycleLength (arcs rows) w i l j
+      → after ≡ cycleOf (arcs rows) w i l j m ++ drop m before → Shown (arcs rows) (length rows) before (cycle m) after
+  cycle-shown {i} {j} {l} {m} {after} gap length-is written =
+      let fits = descent.cycle-fits (arcs rows) (length rows) w (ordered .all) (ordered .passing) i j l gap in
+      let x : Filled (vertexOf (arcs rows) w i l j) before after m = record { within = omega (arith, length-is); written = written } in (
+        subst (λ (k : ℕ). IsChordlessCycle (arcs rows) (length rows) after k) (sym length-is)
+        (descent.cycle (arcs rows) (length rows) w (ordered .all) (ordered .passing) i j l gap (ordered .both-ways) after
+        (omega (arith, filled-length _ x)) (λ p h. filled-at _ x p (omega (arith, length-is)))),
+        filled-behind _ x,
+      )
+
+  pub order-shown : {l : ℕ} {after : List ℕ} → l ≡ firstTop (arcs rows) w (length rows) → length rows ≤ l
+      → after ≡ listed (length rows) (turned w (length rows)) ++ drop (length rows) before → Shown (arcs rows) (length rows) before chordal after
+  unfolding firstTop
+  order-shown {l} {after} top none written =
+      let x : Filled (turned w (length rows)) before after (length rows) = record { within = room; written = written } in
+      let order =
+      eliminates (arcs rows) (length rows) (ordered .both-ways) w (ordered .all) (none-found (length rows) (isTop (arcs rows) w) l top none) after
+      (omega (arith, filled-length _ x)) (filled-at _ x)
+      in
+      (no-cycle (arcs rows) (length rows) (ordered .both-ways) after order, order, filled-behind _ x)

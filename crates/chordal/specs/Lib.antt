@@ -1,0 +1,4 @@
+pub mod Chordal
+pub mod Descent
+pub mod Lists
+pub mod Answer
