@@ -52,8 +52,8 @@ module _ (rows w before : List ℕ) (ordered : Ordered rows w) (room : length ro
       let fits = descent.cycle-fits (arcs rows) (length rows) w (ordered .all) (ordered .passing) i j l gap in
       let x : Filled (vertexOf (arcs rows) w i l j) before after m = record { within = omega (arith, length-is); written = written } in (
         subst (λ (k : ℕ). IsChordlessCycle (arcs rows) (length rows) after k) (sym length-is)
-        (descent.cycle (arcs rows) (length rows) w (ordered .all) (ordered .passing) i j l gap (ordered .both-ways) after
-        (omega (arith, filled-length _ x)) (λ p h. filled-at _ x p (omega (arith, length-is)))),
+            (descent.cycle (arcs rows) (length rows) w (ordered .all) (ordered .passing) i j l gap (ordered .both-ways) after
+            (omega (arith, filled-length _ x)) (λ p h. filled-at _ x p (omega (arith, length-is)))),
         filled-behind _ x,
       )
 

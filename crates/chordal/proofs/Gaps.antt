@@ -58,13 +58,13 @@ module _ (rows w : List ℕ) (ordered : Ordered rows w) (l j before : ℕ) (belo
       and-in (member (row l) (at w j)) (not filled)
       (subst (λ (b : Bool). T b) (sym (turned l j inside (omega arith))) (x .0))
       (not-T filled (λ f.
-          T-not (joined (arcs rows) w i j) (y .1)
-          (subst (λ (b : Bool). T b) (turned j i (omega arith) (omega (arith, s .below)))
-          (within-out 64 (member (common (row l) before)) (member (row j)) f (at w i) small
-          (subst (λ (b : Bool). T b) (sym (member-common (row l) before (at w i)))
-          (and-in (member (row l) (at w i)) (member before (at w i))
-          (subst (λ (b : Bool). T b) (sym (turned l i inside (omega (arith, s .below)))) (y .0))
-          (subst (λ (b : Bool). T b) (sym (seen .members (at w i))) (placed-in w j (at w i) i (s .below) refl))))))))
+      T-not (joined (arcs rows) w i j) (y .1)
+      (subst (λ (b : Bool). T b) (turned j i (omega arith) (omega (arith, s .below)))
+      (within-out 64 (member (common (row l) before)) (member (row j)) f (at w i) small
+      (subst (λ (b : Bool). T b) (sym (member-common (row l) before (at w i)))
+      (and-in (member (row l) (at w i)) (member before (at w i))
+      (subst (λ (b : Bool). T b) (sym (turned l i inside (omega (arith, s .below)))) (y .0))
+      (subst (λ (b : Bool). T b) (sym (seen .members (at w i))) (placed-in w j (at w i) i (s .below) refl))))))))
 
   pub middle-told : (member (row l) (at w j) && not filled) ≡ isMiddle (arcs rows) w l j
   middle-told = same-test (member (row l) (at w j) && not filled) (isMiddle (arcs rows) w l j) gap-told told-gap

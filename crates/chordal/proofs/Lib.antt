@@ -5,3 +5,7 @@ pub mod LexDfs
 pub mod Gaps
 pub mod Writing
 pub mod Deciding
+pub mod AnyGraph
+pub mod Stated
+pub mod Certificates
+pub mod Examples

@@ -28,7 +28,13 @@ fn may_step(
 }
 
 // Where the descent goes from position `from`: to the first position to which it may; `from` where there is none.
-fn next_stop(rows: &[u64], ordering: &[u8], low: Position, top: Position, from: Position) -> Position
+fn next_stop(
+    rows: &[u64],
+    ordering: &[u8],
+    low: Position,
+    top: Position,
+    from: Position,
+) -> Position
     requires { ⌜ (top .0 < length (now ordering)) × (from .0 < length (now ordering)) ⌝ }
     ensures { λ r. ⌜ r .0 ≡ next (arcs (now (rows .entry))) (now (ordering .entry)) (low .0) (top .0) (from .0) ⌝ }
 {

@@ -93,8 +93,8 @@ loop-again c =
     let small : at w j < 64 = omega (arith, s .pre .0 .small, s .pre .0 .all .vertices j (omega (arith, turn .loop-test .taken, s .pre .1))) in (
       passed-more (head .loop .inv .0) (turn .loop-test .taken) (sym (asked told) ∙ c .before .if1 .left),
       subst (λ (set : ℕ). Seen w set (j + 1))
-      (sym (c .insert .ensures ∙ ap (λ (v : ℕ). inserted (head .loop .before) v) (told .before .before .before .before .before .vertex-at2 .ensures)))
-      (seen-more (head .loop .inv .1) small),
+          (sym (c .insert .ensures ∙ ap (λ (v : ℕ). inserted (head .loop .before) v) (told .before .before .before .before .before .vertex-at2 .ensures)))
+          (seen-more (head .loop .inv .1) small),
     )
 
 returns-2 : tie.Need-returns-2 Inv-loop μ-loop

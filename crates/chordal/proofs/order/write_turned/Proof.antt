@@ -47,7 +47,7 @@ loop-again c =
     let p = head .loop .p in (
       omega (arith, c .before .loop-test .taken),
       filled-more _ _ (head .loop .inv .1) (omega (arith, start .pre .1, c .before .loop-test .taken))
-      (c .vertex-at .ensures ∙ ap (λ (q : ℕ). at (now (start .args .ordering)) q) (let e : n - 1 - p ≡ n - suc p = omega arith in e)),
+          (c .vertex-at .ensures ∙ ap (λ (q : ℕ). at (now (start .args .ordering)) q) (let e : n - 1 - p ≡ n - suc p = omega arith in e)),
     )
 
 same-length : tie.Need-same-length Inv-loop μ-loop
