@@ -49,8 +49,8 @@ pub fn write_turned(ordering: &[u8], n: usize, output: &mut [u8])
     requires { ⌜ (n ≤ length (now ordering)) × (n ≤ length (now output)) ⌝ }
     ensures { λ r. ⌜ now (output .exit) ≡ listed n (turned (now (ordering .entry)) n) ++ drop n (now (output .entry)) ⌝ }
 {
-    for p in 0..n {
-        let q = n - 1 - p;
+    for q in 0..n {
+        let p = n - 1 - q;
         output[p] = vertex_at(ordering, Position(q)).0;
     }
 }
