@@ -1,5 +1,5 @@
-// What the programs that play calls share: printing numbers, rows, places and comparisons, plans and walks of at most eight points written as one number,
-// and 64 points in a row.
+// What the programs that play calls share: printing numbers, rows, places, lists and comparisons, plans and walks of at most eight points written as one
+// number, 64 points in a row, and an output list before a call.
 use searches::Comparison;
 use searches::Mark;
 
@@ -69,6 +69,22 @@ pub fn show_places(places: [u8; 64], k: usize) {
     for p in 0..64 {
         show_entry(wide(places[p]), k, p);
     }
+}
+
+// Prints the bytes of a list.
+pub fn show_list(list: &[u8]) {
+    for p in 0..list.len() {
+        show(wide(list[p]));
+    }
+}
+
+// An output list before a call: the byte at place p is 100 + p.
+pub fn fresh() -> [u8; 66] {
+    let mut list = [0u8; 66];
+    for p in 0u8..66 {
+        list[p as usize] = 100 + p;
+    }
+    list
 }
 
 // The rows of a plan that is written as sixteen hexadecimal digits, two for each row, from the first on. The rows after these eight are 0.

@@ -88,6 +88,37 @@ pub fn small(mark: Mark, n: usize, links: u8, random: u64) -> [u64; 64]
     rows
 }
 
+// The two-way plan of n points with this number: bit j, from 0 on, is the j-th of the pairs 0-1, 0-2, 1-2, 0-3, .., which go by their larger point, then by
+// the smaller one.
+pub fn numbered(n: usize, number: u64) -> [u64; 64]
+    requires { ⌜ n ≤ 64 ⌝ }
+{
+    let mut rows = [0u64; 64];
+    let mut rest = number;
+    for u in 0..n {
+        let more = linked(rows, rest, u);
+        rows = more;
+        rest = rest >> u;
+    }
+    rows
+}
+
+// A random two-way plan of n points that has no ring without a chord. Each point is linked to some of these: a point c before it, and those before c to which
+// c is linked. They are all linked to one another.
+pub fn grown(n: usize, random: u64) -> [u64; 64]
+    requires { ⌜ n ≤ 64 ⌝ }
+{
+    let mut rows = [0u64; 64];
+    let mut r = random;
+    for u in 1..n {
+        r = next(r);
+        let c = ((r >> 20) % (u as u64)) as usize;
+        let clique = bitset::insert(rows[c] & bitset::full_below(c), c);
+        rows = linked(rows, clique & random_set(MANY, next(r)), u);
+    }
+    rows
+}
+
 // The set with each number one smaller or one larger, round and round: the row after this one.
 fn turned(mark: Mark, set: u64) -> u64 {
     match mark {

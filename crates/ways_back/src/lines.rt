@@ -2,17 +2,12 @@
 use notation::number;
 use notation::put;
 use notation::show;
+use notation::show_list;
 use notation::wide;
 use route::WayBack;
 use searches::Mark;
 use searches::Vertex;
 ghost use Prim.Native.Nat.{_≤_};
-
-fn show_list(list: &[u8]) {
-    for p in 0..list.len() {
-        show(wide(list[p]));
-    }
-}
 
 // The answer, and how many points were written.
 fn show_answer(answer: WayBack) {
@@ -39,20 +34,11 @@ fn play(mark: Mark, rows: &[u64], ordering: &[u8], vertex: u8, output: &mut [u8]
     put(b'\n');
 }
 
-// An output list before a call.
-fn fresh() -> [u8; 66] {
-    let mut list = [0u8; 66];
-    for p in 0u8..66 {
-        list[p as usize] = 100 + p;
-    }
-    list
-}
-
 // One call with a fresh output list of `room` bytes.
 pub fn trace(mark: Mark, rows: &[u64], ordering: &[u8], vertex: u8, room: usize)
     requires { ⌜ room ≤ 66 ⌝ }
 {
-    let mut output = fresh();
+    let mut output = notation::fresh();
     play(mark, rows, ordering, vertex, &mut output[..room]);
 }
 

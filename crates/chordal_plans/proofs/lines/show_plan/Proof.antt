@@ -1,26 +1,26 @@
--- `ways_back::lines::show_list` reads what the list has.
+-- `chordal_plans::lines::show_plan` reads what the list has.
 -- Assumes nothing.
 use lib.ListN.{length}
 use Prim.Native.Nat.{_≤_, _-_}
 use borrow.Author.Needs.{needs}
-use Rattle.ways_back.proofs.lines.show_list.Statement.{statement}
-use Rattle.ways_back.proofs.lines.show_list.Tie as tie
+use Rattle.chordal_plans.proofs.lines.show_plan.Statement.{statement}
+use Rattle.chordal_plans.proofs.lines.show_plan.Tie as tie
 
 abbrev Inv-loop : tie.InvT-loop
-Inv-loop list p₀ p-end p = p-end ≤ length list
+Inv-loop rows u₀ u-end u = u-end ≤ length rows
 
 abbrev μ-loop : tie.MeasureT-loop
-μ-loop list p₀ p-end p = p-end - p
+μ-loop rows u₀ u-end u = u-end - u
 
-pub show-list-spec : {M : Type 1} → statement M
-show-list-spec =
+pub show-plan-spec : {M : Type 1} → statement M
+show-plan-spec =
     tie.close
     (tie.spec
     Inv-loop
     μ-loop
     (λ c. search needs)
     (λ c. search needs)
-    (λ c κs. search needs)
+    (λ c. search needs)
     (λ c κs. search needs)
     (λ c. search needs)
     (λ c. search needs)

@@ -1,9 +1,9 @@
--- `ways_back::lines::fresh` writes to places that are there.
+-- `notation::fresh` writes to places that are there.
 -- Assumes nothing.
 use Prim.Native.Nat.{_≤_, _-_}
 use borrow.Author.Needs.{needs}
-use Rattle.ways_back.proofs.lines.fresh.Statement.{statement}
-use Rattle.ways_back.proofs.lines.fresh.Tie as tie
+use Rattle.notation.proofs.fresh.Statement.{statement}
+use Rattle.notation.proofs.fresh.Tie as tie
 
 abbrev Inv-loop : tie.InvT-loop
 Inv-loop list₀ p₀ list p = p ≤ 66
