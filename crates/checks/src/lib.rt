@@ -1,10 +1,11 @@
 // What is refused: tests on lists that the caller owns, in their order, each on every row or entry before the following one.
 // No function here alters a list.
 pub mod number;
+pub mod two_way;
 
 ghost use mathlib.Core.Path.{_≡_};
 ghost use mathlib.Core.List.{[], _∷_};
-ghost use Rattle.searches.specs.Answer.{openTests, openTestsBarring, judgeTestsBarring, listTestsBarring, twoWayTests, firstRefusal, refusalOf};
+ghost use Rattle.searches.specs.Answer.{openTests, openTestsBarring, judgeTestsBarring, listTestsBarring, firstRefusal, refusalOf};
 use searches::Kind;
 use searches::Mark;
 use searches::Outcome;
@@ -121,22 +122,4 @@ pub fn list_refusal(
     let twice = lookup::entries::repeated(output, k) | lookup::entries::repeated(tie_break, n);
     let out_of_service = lookup::entries::vertex_barred(output, k, barred);
     entries_refusal(twice, out_of_service)
-}
-
-// The first of refusals 2, 3, 4, 25 and 5, in this order, that applies where only a two-way graph is accepted, else `Done`. It alters no list.
-pub fn two_way_refusal(mark: Mark, rows: &[u64]) -> Outcome
-    ensures { λ r. ⌜ refusalOf r ≡ firstRefusal (twoWayTests mark (now (rows .entry))) ⌝ }
-{
-    // what every graph is refused for, whichever its mark
-    let checked = graph_refusal(Kind::GENERIC, Mark::OneWay, rows);
-    if let Outcome::Refused(refusal) = checked {
-        return Outcome::Refused(refusal);
-    }
-    if let Mark::OneWay = mark {
-        return Outcome::Refused(Refusal::OneWayGraph);
-    }
-    if lookup::rows::one_way(rows) {
-        return Outcome::Refused(Refusal::OneWayArc);
-    }
-    Outcome::Done
 }

@@ -1,8 +1,8 @@
 // Whether a two-way graph is chordal, with an elimination order or a chordless cycle to show for it. On lists that the caller owns, for every graph, mark and
 // output list there can be.
-pub mod cycle;
-pub mod gap;
-pub mod order;
+mod cycle;
+mod gap;
+mod order;
 
 use searches::Mark;
 use searches::Outcome;
@@ -43,7 +43,7 @@ pub fn decide(mark: Mark, rows: &[u64], output: &mut [u8]) -> Chordality
 fn chordal_refusal(mark: Mark, rows: &[u64], room: usize) -> Outcome
     ensures { λ r. ⌜ refusalOf r ≡ firstRefusal (chordalTests mark (now (rows .entry)) room) ⌝ }
 {
-    let checked = checks::two_way_refusal(mark, rows);
+    let checked = checks::two_way::two_way_refusal(mark, rows);
     if let Outcome::Refused(refusal) = checked {
         return Outcome::Refused(refusal);
     }

@@ -13,11 +13,13 @@
 //!   k   the comparisons that a program of the library makes
 //!   l   points out of service, and several faults at once
 //!   m   the open walks with points out of service that a program of the library plays
+//!   n   the plans that a program of the library finds to have a chordless ring or none
 
 mod barred;
 mod barred_walks;
 mod carry_over;
 mod charged_walks;
+mod chordal_plans;
 mod compared_points;
 mod comparison;
 mod document;
@@ -45,6 +47,7 @@ fn main() {
         + compared_points::compare()
         + barred::compare()
         + faults::compare()
-        + barred_walks::compare();
+        + barred_walks::compare()
+        + chordal_plans::compare();
     println!("all {calls} calls agree");
 }

@@ -1,4 +1,4 @@
--- `checks::two_way_refusal` meets its contract: refusals 2, 3 and 4 are those of a graph of either mark, then the mark is looked at, then every link.
+-- `checks::two_way::two_way_refusal` meets its contract: refusals 2, 3 and 4 are those of a graph of either mark, then the mark is looked at, then every link.
 -- Assumes nothing.
 use mathlib.Core.Path.{_≡_, refl, sym, ap, _∙_, subst}
 use mathlib.Core.Bool.{Bool, false, not}
@@ -15,8 +15,8 @@ use Rattle.searches.specs.declared.Mark.{Mark}
 use Rattle.searches.proofs.Refusals.{none-accepts}
 use Rattle.searches.proofs.Answers.{valid-small}
 use Rattle.checks.proofs.Tried.{Tried, tried-one, tried-first, refused-here, refused-before, accepted-here}
-use Rattle.checks.proofs.two_way_refusal.Statement.{statement}
-use Rattle.checks.proofs.two_way_refusal.Tie as tie
+use Rattle.checks.proofs.two_way.two_way_refusal.Statement.{statement}
+use Rattle.checks.proofs.two_way.two_way_refusal.Tie as tie
 
 abbrev rows-of : tie.After-graph-refusal → List ℕ
 rows-of c = now (c .before .before .args .rows)
