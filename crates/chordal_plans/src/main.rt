@@ -42,12 +42,6 @@ fn rings(n: usize)
     two_way(complement(n, ring(n)), n, n);
 }
 
-fn all_rings() {
-    for n in 3..65 {
-        rings(n);
-    }
-}
-
 // A ring of n of 64 points.
 fn ring_of_some(n: usize)
     requires { ⌜ n ≤ 64 ⌝ }
@@ -90,15 +84,20 @@ fn any_links(n: usize)
     two_way(plans::small(Mark::TwoWay, n, plans::PIECES, r), n, n);
 }
 
-fn all_without_rings() {
-    for n in 2..65 {
-        without_rings(n);
+// Plans of n points. There are more of them where n is from 7 to 30.
+fn decide_some(n: usize)
+    requires { ⌜ n ≤ 64 ⌝ }
+{
+    rings(n);
+    without_rings(n);
+    if 6 < n && n < 31 {
+        any_links(n);
     }
 }
 
-fn all_any_links() {
-    for n in 7..31 {
-        any_links(n);
+fn decide_each_size() {
+    for n in 3..65 {
+        decide_some(n);
     }
 }
 
@@ -131,7 +130,8 @@ fn rooms(mark: Mark) {
 
 fn main() {
     small::decide_all();
-    all_rings();
+    decide_each_size();
+    any_links(64);
     ring_of_some(4);
     ring_of_some(5);
     ring_of_some(33);
@@ -142,9 +142,6 @@ fn main() {
     all_or_none(33);
     all_or_none(63);
     all_or_none(64);
-    all_without_rings();
-    all_any_links();
-    any_links(64);
     two_way(plans::largest(Mark::TwoWay, seed(65)), 64, 64);
     two_way(notation::in_a_row(), 64, 64);
     refused(Mark::TwoWay);

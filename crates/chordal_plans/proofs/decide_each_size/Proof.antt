@@ -1,9 +1,9 @@
--- `chordal_plans::all_without_rings` ends.
+-- `chordal_plans::decide_each_size` ends.
 -- Assumes nothing.
 use Prim.Native.Nat.{_≤_, _-_}
 use borrow.Author.Needs.{needs}
-use Rattle.chordal_plans.proofs.all_without_rings.Statement.{statement}
-use Rattle.chordal_plans.proofs.all_without_rings.Tie as tie
+use Rattle.chordal_plans.proofs.decide_each_size.Statement.{statement}
+use Rattle.chordal_plans.proofs.decide_each_size.Tie as tie
 
 abbrev Inv-loop : tie.InvT-loop
 Inv-loop n₀ n = n ≤ 65
@@ -11,8 +11,8 @@ Inv-loop n₀ n = n ≤ 65
 abbrev μ-loop : tie.MeasureT-loop
 μ-loop n₀ n = 65 - n
 
-pub all-without-rings-spec : {M : Type 1} → statement M
-all-without-rings-spec =
+pub decide-each-size-spec : {M : Type 1} → statement M
+decide-each-size-spec =
     tie.close
     (tie.spec
     Inv-loop
