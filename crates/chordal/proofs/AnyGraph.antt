@@ -3,13 +3,12 @@
 --   either, ordered
 -- Assumes nothing.
 use Prim.Native.Nat.{ℕ, _<_}
-use mathlib.Core.Path.{_≡_, refl}
+use mathlib.Core.Path.{refl}
 use mathlib.Core.Bool.{Bool}
 use mathlib.Core.Logic.{_⊎_, inl, inr}
 use mathlib.Core.List.{List, []}
 use native.Mathlib.Omega.{arith}
 use lib.Dec.{T}
-use lib.ListN.{length}
 use Rattle.bitset.specs.Below.{anyBelow}
 use Rattle.bitset.proofs.Tests.{decided}
 use Rattle.bitset.proofs.Below.{any-out, first-found}

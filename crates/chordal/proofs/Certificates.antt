@@ -4,15 +4,13 @@
 -- Assumes nothing.
 use mathlib.Core.Path.{_≡_, refl, sym, ap, _∙_, subst}
 use mathlib.Core.Logic.{_↔_, Iff·trans, _⊎_, inl, inr}
-use mathlib.Core.Bool.{Bool, false, cond, not}
+use mathlib.Core.Bool.{Bool}
 use mathlib.Core.List.{List, [], _∷_, map}
-use mathlib.Core.Option.{Option, none, some}
 use Prim.Native.Nat.{ℕ, _≤_, _<_}
-use native.Mathlib.Omega.{arith}
 use lib.Dec.{T}
 use lib.ListN.{length, drop}
 use Rattle.searches.specs.Ordering.{arcs}
-use Rattle.searches.specs.Answer.{bitOutside, selfLoop, openTests, twoWayTests, firstRefusal, Accepts, Refuses, openAnswer}
+use Rattle.searches.specs.Answer.{bitOutside, selfLoop, twoWayTests, firstRefusal, Accepts, Refuses, openAnswer}
 use Rattle.searches.specs.declared.Mark.{Mark}
 use Rattle.searches.proofs.Refusals.{refuses-first, first-refuses}
 use Rattle.chordal.specs.Chordal.{Symmetric, IsChordlessCycle, Chordal, IsEliminationOrder}

@@ -2,14 +2,16 @@
 -- relation and any n.
 --   Between, between                  where i is linked to l and not to j, some vertex between them is linked to j and not to l: LexDFS's own condition
 --   IsNext, next-is                   where the descent goes next
---   descends, stays-over, moves       it stays above i until it is there
+--   Descended, descends, stays-over, moves   it stays above i until it is there
 --   stops-in-time, stops-at           it comes to i;   long-enough   in two steps or more
---   falls, goes-linked, no-chord, no-top     its positions fall, each is linked to the one before, and to none of the others
---   cycle-fits, cycle                 what it goes over is a chordless cycle
+--   falls, no-chord, no-top           its positions fall; each is linked to the one before it, to none before that, and except for the first and the last not to l
+--   under-top, cycle-fits             the cycle stays below l, and is no longer than n
+--   linked-next, next-linked          its vertices are linked exactly where they are next to each other
+--   cycle                             so it is a chordless cycle
 -- Assumes nothing.
 use Prim.Native.Nat.{ℕ, zero, suc, _+_, _≤_, _<_}
 use mathlib.Core.Path.{_≡_, refl, sym, ap, _∙_, subst}
-use mathlib.Core.Bool.{Bool, not, _&&_, _||_}
+use mathlib.Core.Bool.{Bool, not, _&&_}
 use mathlib.Core.Logic.{_⊎_, inl, inr}
 use mathlib.Core.List.{List}
 use native.Mathlib.Omega.{arith}

@@ -1,15 +1,14 @@
 -- The definitions, run. A chordless cycle and an elimination order as tests that compute, and that these say the same; then a list of plans with cycles and
 -- orders to try, each answered by the tests.
---   isOrdering, nextTo, isChordlessCycle, isEliminationOrder    the tests
+--   isOrdering, nextTo, asNext, isChordlessCycle, closed, isEliminationOrder    the tests
 --   cycle-exactly, order-exactly                                they hold exactly where the definitions do
 --   Example, examples, examples-right                           what they tell
 -- Assumes nothing.
-use mathlib.Core.Path.{_≡_, refl, sym, ap, subst}
+use mathlib.Core.Path.{_≡_, refl, sym, subst}
 use mathlib.Core.Logic.{_↔_, _⊎_, inl, inr}
 use mathlib.Core.Bool.{Bool, true, false, not, _&&_, _||_, Bool·beq}
 use mathlib.Core.List.{List, [], _∷_, map}
-use Prim.Native.Nat.{ℕ, suc, _≤_, _<_}
-use native.Mathlib.Omega.{arith}
+use Prim.Native.Nat.{ℕ, suc, _<_}
 use lib.Dec.{T, leb, eqb, eqb→eq, eqb-refl, leb→le, le→leb, T-not, not-T}
 use lib.ListN.{length}
 use Rattle.bitset.specs.Below.{anyBelow, allBelow}

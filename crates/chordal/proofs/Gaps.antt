@@ -8,13 +8,13 @@ use mathlib.Core.List.{List}
 use native.Mathlib.Omega.{arith}
 use lib.Dec.{T, T-not, not-T}
 use lib.ListN.{length, getD}
-use Rattle.bitset.specs.Below.{anyBelow, within}
+use Rattle.bitset.specs.Below.{within}
 use Rattle.bitset.specs.Word.{member, common}
 use Rattle.bitset.proofs.Tests.{and-in, and-out, same-test}
 use Rattle.bitset.proofs.Below.{any-out, any-at}
 use Rattle.bitset.proofs.Sets.{within-out, not-within}
 use Rattle.bitset.proofs.Word.{member-common}
-use Rattle.searches.specs.Ordering.{arcs, at, placed}
+use Rattle.searches.specs.Ordering.{arcs, at}
 use Rattle.searches.proofs.Ordering.{placed-in, placed-out}
 use Rattle.lookup.proofs.Seen.{Seen}
 use Rattle.chordal.specs.Descent.{joined, isGap, isMiddle}

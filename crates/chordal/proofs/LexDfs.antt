@@ -3,7 +3,7 @@
 --   ordered           what carry-on leaves in its output list begins with a LexDFS ordering
 -- Assumes nothing.
 use Prim.Native.Nat.{ℕ, _≤_, _<_}
-use mathlib.Core.Path.{_≡_, refl, sym, ap, _∙_, subst}
+use mathlib.Core.Path.{_≡_, refl, sym, _∙_, subst}
 use mathlib.Core.List.{List, []}
 use native.Mathlib.Omega.{arith}
 use lib.ListN.{length, take, length-take}
@@ -11,7 +11,6 @@ use lib.Seq.{getD-take, length-take-le}
 use Rattle.searches.specs.Kind.{lexDfs, kindOf, searchOf}
 use Rattle.searches.specs.Ordering.{arcs, at, IsOrdering, IsFullOrdering}
 use Rattle.searches.specs.CarryOn.{CarriedOn}
-use Rattle.searches.specs.Violation.{passes, judge}
 use Rattle.searches.specs.Answer.{isTwoWay, openTests, Accepts, carryOnOutput, outputBarring}
 use Rattle.searches.specs.declared.Mark.{Mark}
 use Rattle.searches.proofs.Ordering.{ordering-agree, take-agree}

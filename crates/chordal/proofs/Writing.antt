@@ -1,4 +1,5 @@
 -- The cycle while it is written.
+--   vertexOf arc w i l j p               the p-th vertex of the cycle
 --   Writing arc w i l j out₀ out q written   the first vertices of the cycle are written, as many as are told, and the descent has come to q
 --   begun                                the first two
 --   writing-start, writing-next          where the loop begins, and after one step more

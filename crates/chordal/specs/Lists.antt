@@ -1,12 +1,12 @@
 -- What the functions require of their lists.
 --   Ordered rows w                 w begins with a LexDFS ordering of all vertices of a graph whose links go both ways, at most 64
 --   Descendable rows w out i j l   i, j and l are a gap of such an ordering, and the output list has a byte for each vertex
-use Prim.Native.Nat.{ℕ, _≤_, _<_}
+use Prim.Native.Nat.{ℕ, _≤_}
 use mathlib.Core.Path.{_≡_}
 use mathlib.Core.List.{List}
 use lib.ListN.{length}
 use Rattle.searches.specs.Kind.{lexDfs}
-use Rattle.searches.specs.Ordering.{arcs, at, IsOrdering}
+use Rattle.searches.specs.Ordering.{arcs, IsOrdering}
 use Rattle.searches.specs.Violation.{passes, judge}
 use Rattle.searches.specs.Answer.{BothWays}
 use Rattle.chordal.specs.Descent.{Gap}

@@ -4,7 +4,7 @@ use lookup::vertex_at;
 use searches::Position;
 ghost use mathlib.Core.Path.{_≡_};
 ghost use mathlib.Core.List.{_++_};
-ghost use Prim.Native.Nat.{_≤_, _<_};
+ghost use Prim.Native.Nat.{_<_};
 ghost use lib.ListN.{length, drop};
 ghost use Rattle.searches.specs.Ordering.{arcs};
 ghost use Rattle.chordal.specs.Descent.{step, next, cycleLength, cycleOf};

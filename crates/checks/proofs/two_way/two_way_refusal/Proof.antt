@@ -1,16 +1,15 @@
 -- `checks::two_way::two_way_refusal` meets its contract: refusals 2, 3 and 4 are those of a graph of either mark, then the mark is looked at, then every link.
 -- Assumes nothing.
 use mathlib.Core.Path.{_≡_, refl, sym, ap, _∙_, subst}
-use mathlib.Core.Bool.{Bool, false, not}
-use mathlib.Core.List.{List, [], _∷_, _++_}
-use mathlib.Core.Option.{none, some}
-use Prim.Native.Nat.{ℕ, _≤_}
+use mathlib.Core.Bool.{Bool, not}
+use mathlib.Core.List.{List, [], _∷_}
+use mathlib.Core.Option.{none}
+use Prim.Native.Nat.{ℕ}
 use denote.Ref.{now}
-use native.Mathlib.Omega.{arith}
-use lib.Dec.{T, ltb, lt→ltb}
+use lib.Dec.{ltb}
 use lib.ListN.{length}
 use Rattle.bitset.proofs.Tests.{is-false}
-use Rattle.searches.specs.Answer.{bitOutside, selfLoop, oneWay, isTwoWay, openTests, twoWayTests, firstRefusal, Accepts, number, refusalOf}
+use Rattle.searches.specs.Answer.{bitOutside, selfLoop, oneWay, isTwoWay, openTests, twoWayTests, firstRefusal, number, refusalOf}
 use Rattle.searches.specs.declared.Mark.{Mark}
 use Rattle.searches.proofs.Refusals.{none-accepts}
 use Rattle.searches.proofs.Answers.{valid-small}

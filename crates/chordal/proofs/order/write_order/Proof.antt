@@ -1,7 +1,7 @@
 -- `chordal::order::write_order` meets its contract: carry-on refuses nothing, and leaves a LexDFS ordering.
 -- Assumes nothing.
 use Prim.Native.Nat.{ℕ, _≤_}
-use mathlib.Core.Path.{_≡_, sym, ap, _∙_, subst}
+use mathlib.Core.Path.{sym, ap, _∙_, subst}
 use mathlib.Core.List.{List}
 use native.Mathlib.Omega.{arith}
 use denote.Ref.{now}
@@ -13,7 +13,6 @@ use Rattle.searches.specs.Ordering.{IsFullOrdering}
 use Rattle.searches.specs.declared.Mark.{Mark}
 use Rattle.searches.proofs.Answers.{valid-small}
 use Rattle.searches.proofs.DemandsBarring.{output-stays}
-use Rattle.chordal.specs.Descent.{numbers}
 use Rattle.chordal.specs.Lists.{Ordered}
 use Rattle.chordal.proofs.Listing.{listed-length}
 use Rattle.chordal.proofs.LexDfs.{numbers-full, ordered}
