@@ -17,11 +17,10 @@ use Rattle.searches.specs.CarryOn.{CarriedOn, carryOn}
 use Rattle.searches.proofs.Ordering.{upTo, upTo-full}
 use Rattle.searches.proofs.CarryOn.{carryOn-carries}
 use Rattle.chordal.specs.Chordal.{Symmetric, IsChordlessCycle, Chordal, IsEliminationOrder}
-use Rattle.chordal.specs.Descent.{isTop, firstLow, firstMiddle, firstTop, cycleLength, listed, cycleOf, turned}
+use Rattle.chordal.specs.Descent.{isTop, firstLow, firstMiddle, firstTop, cycleLength, listed, cycleVertex, cycleOf, turned}
 use Rattle.chordal.proofs.Descent as descent
 use Rattle.chordal.proofs.Elimination.{first-gap, eliminates}
 use Rattle.chordal.proofs.Listing.{listed-length, listed-at}
-use Rattle.chordal.proofs.Writing.{vertexOf}
 
 module _ (arc : ℕ → ℕ → Bool) (n : ℕ) (symmetric : Symmetric arc n) where
   abbrev w : List ℕ
@@ -50,7 +49,7 @@ module _ (arc : ℕ → ℕ → Bool) (n : ℕ) (symmetric : Symmetric arc n) wh
           → ((e : List ℕ) × IsEliminationOrder arc n e) ⊎ ((c : List ℕ) × (m : ℕ) × IsChordlessCycle arc n c m)
       go (inl t) =
           let m = cycleLength arc w i l j in
-          let f = vertexOf arc w i l j in
+          let f = cycleVertex arc w i l j in
           let gap = first-gap arc n symmetric w l refl (inside t) in
           inr (cycleOf arc w i l j m, m, descent.cycle arc n w (carried .full .ordering) (carried .passing) i j l gap symmetric (listed m f) (omega (arith, listed-length m f)) (listed-at m f))
       go (inr none) =

@@ -17,14 +17,13 @@ use Rattle.searches.specs.Kind.{lexDfs, kindOf}
 use Rattle.searches.specs.Ordering.{arcs}
 use Rattle.searches.specs.Answer.{isTwoWay, openTests, twoWayTests, Accepts}
 use Rattle.searches.specs.declared.Mark.{Mark}
-use Rattle.chordal.specs.Descent.{Gap, isTop, firstLow, firstMiddle, firstTop, cycleLength, listed, cycleOf, turned}
+use Rattle.chordal.specs.Descent.{Gap, isTop, firstLow, firstMiddle, firstTop, cycleLength, listed, cycleVertex, cycleOf, turned}
 use Rattle.chordal.specs.Lists.{Ordered, Descendable}
 use Rattle.chordal.specs.Chordal.{IsChordlessCycle}
 use Rattle.chordal.specs.Answer.{chordalTests, chordal, cycle, Shown}
 use Rattle.chordal.proofs.Descent as descent
 use Rattle.chordal.proofs.Elimination.{no-cycle, first-gap, eliminates}
 use Rattle.chordal.proofs.Listing.{Filled, filled-length, filled-at, filled-behind}
-use Rattle.chordal.proofs.Writing.{vertexOf}
 
 pub valid : (mark : Mark) (rows : List ℕ) (room : ℕ) → Accepts (chordalTests mark rows room) → Accepts (openTests (kindOf lexDfs) Mark.TwoWay rows) × (length rows ≤ room)
 unfolding chordalTests twoWayTests openTests isTwoWay kindOf
@@ -50,7 +49,7 @@ module _ (rows w before : List ℕ) (ordered : Ordered rows w) (room : length ro
       → after ≡ cycleOf (arcs rows) w i l j m ++ drop m before → Shown (arcs rows) (length rows) before (cycle m) after
   cycle-shown {i} {j} {l} {m} {after} gap length-is written =
       let fits = descent.cycle-fits (arcs rows) (length rows) w (ordered .all) (ordered .passing) i j l gap in
-      let x : Filled (vertexOf (arcs rows) w i l j) before after m = record { within = omega (arith, length-is); written = written } in (
+      let x : Filled (cycleVertex (arcs rows) w i l j) before after m = record { within = omega (arith, length-is); written = written } in (
         subst (λ (k : ℕ). IsChordlessCycle (arcs rows) (length rows) after k) (sym length-is)
             (descent.cycle (arcs rows) (length rows) w (ordered .all) (ordered .passing) i j l gap (ordered .both-ways) after
             (omega (arith, filled-length _ x)) (λ p h. filled-at _ x p (omega (arith, length-is)))),

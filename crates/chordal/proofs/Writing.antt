@@ -1,5 +1,4 @@
 -- The cycle while it is written.
---   vertexOf arc w i l j p               the p-th vertex of the cycle
 --   Writing arc w i l j out₀ out q written   the first vertices of the cycle are written, as many as are told, and the descent has come to q
 --   begun                                the first two
 --   writing-start, writing-next          where the loop begins, and after one step more
@@ -16,30 +15,27 @@ use native.Mathlib.Numerals.{add-one}
 use lib.ListN.{length, set}
 use Rattle.bitset.proofs.Tests.{below-or}
 use Rattle.searches.specs.Ordering.{arcs, at}
-use Rattle.chordal.specs.Descent.{Gap, next, stop, steps, cycleAt, cycleLength}
+use Rattle.chordal.specs.Descent.{Gap, next, stop, steps, cycleAt, cycleLength, cycleVertex}
 use Rattle.chordal.specs.Lists.{Ordered}
 use Rattle.chordal.proofs.Descent.{stays-over, moves, stops-at, under-top, cycle-fits}
 use Rattle.chordal.proofs.Listing.{Filled, filled-none, filled-more, filled-anew}
-
-abbrev pub vertexOf : (ℕ → ℕ → Bool) → List ℕ → ℕ → ℕ → ℕ → ℕ → ℕ
-vertexOf arc w i l j p = at w (cycleAt arc w i l j p)
 
 pub record Writing (arc : ℕ → ℕ → Bool) (w : List ℕ) (i l j : ℕ) (out₀ out : List ℕ) (q written : ℕ) : Type 0 where
   pub s : ℕ
   pub count : written ≡ suc (suc s)
   pub upto : s ≤ steps arc w i l j
   pub here : q ≡ stop arc w i l j s
-  pub filled : Filled (vertexOf arc w i l j) out₀ out written
+  pub filled : Filled (cycleVertex arc w i l j) out₀ out written
 
 module _ (arc : ℕ → ℕ → Bool) (w : List ℕ) (i l j : ℕ) where
-  pub begun : {u v : ℕ} (out : List ℕ) → 2 ≤ length out → u ≡ at w l → v ≡ at w j → Filled (vertexOf arc w i l j) out (set (set out 0 u) 1 v) 2
+  pub begun : {u v : ℕ} (out : List ℕ) → 2 ≤ length out → u ≡ at w l → v ≡ at w j → Filled (cycleVertex arc w i l j) out (set (set out 0 u) 1 v) 2
   unfolding cycleAt stop
   begun out room first second =
-      filled-more (vertexOf arc w i l j) _ (filled-more (vertexOf arc w i l j) _ (filled-none (vertexOf arc w i l j) out) (omega arith) first) (omega arith) second
+      filled-more (cycleVertex arc w i l j) _ (filled-more (cycleVertex arc w i l j) _ (filled-none (cycleVertex arc w i l j) out) (omega arith) first) (omega arith) second
 
-  pub writing-start : {out₀ out : List ℕ} → Filled (vertexOf arc w i l j) out₀ out 2 → Writing arc w i l j out out j 2
+  pub writing-start : {out₀ out : List ℕ} → Filled (cycleVertex arc w i l j) out₀ out 2 → Writing arc w i l j out out j 2
   unfolding stop
-  writing-start x = record { s = 0; count = refl; upto = omega arith; here = refl; filled = filled-anew (vertexOf arc w i l j) x }
+  writing-start x = record { s = 0; count = refl; upto = omega arith; here = refl; filled = filled-anew (cycleVertex arc w i l j) x }
 
 module _ (rows w : List ℕ) (i j l : ℕ) (ordered : Ordered rows w) (gap : Gap (arcs rows) w (length rows) i j l) where
   abbrev n : ℕ
@@ -89,7 +85,7 @@ module _ (rows w : List ℕ) (i j l : ℕ) (ordered : Ordered rows w) (gap : Gap
           upto = omega arith;
           here = here;
           filled =
-              filled-more (vertexOf (arcs rows) w i l j) v (x .filled) (omega arith)
+              filled-more (cycleVertex (arcs rows) w i l j) v (x .filled) (omega arith)
               (of-vertex ∙ ap (λ (p : ℕ). at w p) (here ∙ ap (λ (p : ℕ). cycleAt (arcs rows) w i l j p) (sym (x .count))));
         }
 

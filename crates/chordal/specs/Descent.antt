@@ -10,7 +10,8 @@
 --   cycleAt i l j p           the position of the p-th vertex of the cycle: l, then j and where the descent goes from there
 --   cycleLength i l j         how many vertices that are
 --   listed k f                f 0, .., f (k - 1);   numbers k   0, .., k - 1
---   cycleOf arc w i l j m     the first m vertices of the cycle;   turned w n   the first n vertices of w, the last one first
+--   cycleVertex arc w i l j p, cycleOf arc w i l j m   the p-th vertex of the cycle, and the first m
+--   turned w n p              the p-th of the first n vertices of w, counted from the last
 use Prim.Native.Nat.{ℕ, zero, suc, _-_, _<_}
 use mathlib.Core.Bool.{Bool, not, _&&_, _||_}
 use mathlib.Core.List.{List, [], _∷_, _++_}
@@ -81,8 +82,11 @@ listed (suc k) f = listed k f ++ f k ∷ []
 abbrev pub numbers : ℕ → List ℕ
 numbers k = listed k (λ v. v)
 
+abbrev pub cycleVertex : (ℕ → ℕ → Bool) → List ℕ → ℕ → ℕ → ℕ → ℕ → ℕ
+cycleVertex arc w i l j p = at w (cycleAt arc w i l j p)
+
 abbrev pub cycleOf : (ℕ → ℕ → Bool) → List ℕ → ℕ → ℕ → ℕ → ℕ → List ℕ
-cycleOf arc w i l j m = listed m (λ p. at w (cycleAt arc w i l j p))
+cycleOf arc w i l j m = listed m (cycleVertex arc w i l j)
 
 abbrev pub turned : List ℕ → ℕ → ℕ → ℕ
 turned w n p = at w (n - suc p)

@@ -6,9 +6,10 @@ use native.Mathlib.Omega.{arith}
 use denote.Ref.{now}
 use lib.ListN.{length, set, length-set}
 use Rattle.searches.specs.Ordering.{arcs}
+use Rattle.chordal.specs.Descent.{cycleVertex}
 use Rattle.chordal.specs.Lists.{Descendable}
 use Rattle.chordal.proofs.Listing.{Filled, filled-length, filled-through}
-use Rattle.chordal.proofs.Writing.{Writing, vertexOf, begun, writing-start, writing-inside, writing-falls, writing-room, writing-next, writing-end}
+use Rattle.chordal.proofs.Writing.{Writing, begun, writing-start, writing-inside, writing-falls, writing-room, writing-next, writing-end}
 use Rattle.chordal.proofs.cycle.write_cycle.Statement.{statement}
 use Rattle.chordal.proofs.cycle.write_cycle.Tie as tie
 
@@ -36,7 +37,7 @@ slice-write-output-2 c =
 -- the first two vertices
 started : (c : tie.After-vertex-at2 Inv-loop μ-loop)
     → let a = c .before .before .before .before .before .args in
-    Filled (vertexOf (arcs (now (a .rows))) (now (a .ordering)) (a .low .0) (a .top .0) (a .middle .0)) (now (a .output))
+    Filled (cycleVertex (arcs (now (a .rows))) (now (a .ordering)) (a .low .0) (a .top .0) (a .middle .0)) (now (a .output))
     (set (set (now (a .output)) 0 (c .before .vertex-at .result .0)) 1 (c .vertex-at2 .result .0)) 2
 started c =
     let s = c .before .before .before .before .before in
