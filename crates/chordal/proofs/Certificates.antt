@@ -28,7 +28,7 @@ module _ (arc : ℕ → ℕ → Bool) (n : ℕ) (symmetric : Symmetric arc n) wh
 
   -- and never both: a graph is chordal exactly when it has an elimination order
   pub chordal-exactly : Chordal arc n ↔ ((e : List ℕ) × IsEliminationOrder arc n e)
-  chordal-exactly = (any-graph.ordered arc n symmetric, λ x. elimination.no-cycle arc n symmetric (x .0) (x .1))
+  chordal-exactly = (any-graph.ordered arc n symmetric, λ x. elimination.order-excludes-cycle arc n symmetric (x .0) (x .1))
 
 -- ---- as the call answers: `before` and `after` are what the output list holds before the call and after it
 
@@ -36,6 +36,10 @@ module _ (mark : Mark) (rows before : List ℕ) (answer : Answer) (after : List 
     (told : refusalIn answer ≡ firstRefusal (chordalTests mark rows (length before))) (shown : Shown (arcs rows) (length rows) before answer after) where
   abbrev tests : List (ℕ × Bool)
   tests = chordalTests mark rows (length before)
+
+  -- what is shown, once the answer is known
+  shown-as : {x : Answer} → answer ≡ x → Shown (arcs rows) (length rows) before x after
+  shown-as e = subst (λ (y : Answer). Shown (arcs rows) (length rows) before y after) e shown
 
   -- ---- refusals
 
@@ -62,7 +66,7 @@ module _ (mark : Mark) (rows before : List ℕ) (answer : Answer) (after : List 
 
   -- refused, the output list is what it was
   pub refused-keeps : (r : ℕ) → answer ≡ refused r → after ≡ before
-  refused-keeps r e = subst (λ (x : Answer). Shown (arcs rows) (length rows) before x after) e shown
+  refused-keeps r e = shown-as e
 
   -- ---- yes and no
 
@@ -73,16 +77,16 @@ module _ (mark : Mark) (rows before : List ℕ) (answer : Answer) (after : List 
 
     -- yes is given exactly if no such cycle exists,
     pub yes-exactly : (answer ≡ chordal) ↔ Chordal (arcs rows) (length rows)
-    yes-exactly = (λ e. subst (λ (x : Answer). Shown (arcs rows) (length rows) before x after) e shown .0, λ free. go free answered)
+    yes-exactly = (λ e. shown-as e .0, λ free. go free answered)
       where
         go : Chordal (arcs rows) (length rows) → (answer ≡ chordal) ⊎ ((m : ℕ) × (answer ≡ cycle m)) → answer ≡ chordal
         go free (inl e) = e
-        go free (inr x) = absurd (free after (x .0) (subst (λ (y : Answer). Shown (arcs rows) (length rows) before y after) (x .1) shown .0))
+        go free (inr x) = absurd (free after (x .0) (shown-as (x .1) .0))
 
     -- and no exactly if one does
     pub no-exactly : ((m : ℕ) × (answer ≡ cycle m)) ↔ ((c : List ℕ) × (m : ℕ) × IsChordlessCycle (arcs rows) (length rows) c m)
     no-exactly = (
-      λ x. (after, x .0, subst (λ (y : Answer). Shown (arcs rows) (length rows) before y after) (x .1) shown .0),
+      λ x. (after, x .0, shown-as (x .1) .0),
       λ x. go x answered,
     )
       where
@@ -95,19 +99,19 @@ module _ (mark : Mark) (rows before : List ℕ) (answer : Answer) (after : List 
 
   -- yes comes with an elimination order of all points, in which the later neighbours of each point are linked to one another,
   pub yes-order : answer ≡ chordal → IsEliminationOrder (arcs rows) (length rows) after
-  yes-order e = subst (λ (x : Answer). Shown (arcs rows) (length rows) before x after) e shown .1
+  yes-order e = shown-as e .1
 
   -- no with such a cycle, written in order, and its length
   pub no-cycle : (m : ℕ) → answer ≡ cycle m → IsChordlessCycle (arcs rows) (length rows) after m
-  no-cycle m e = subst (λ (x : Answer). Shown (arcs rows) (length rows) before x after) e shown .0
+  no-cycle m e = shown-as e .0
 
   -- bytes after the order remain,
   pub behind-order : answer ≡ chordal → drop (length rows) after ≡ drop (length rows) before
-  behind-order e = subst (λ (x : Answer). Shown (arcs rows) (length rows) before x after) e shown .2
+  behind-order e = shown-as e .2
 
   -- and so do those after the cycle
   pub behind-cycle : (m : ℕ) → answer ≡ cycle m → drop m after ≡ drop m before
-  behind-cycle m e = subst (λ (x : Answer). Shown (arcs rows) (length rows) before x after) e shown .1
+  behind-cycle m e = shown-as e .1
 
 -- a two-way plan is refused with 2 to 5 exactly as open refuses it, whatever the kind
 pub two-way-as-open : (kind : ℕ) (rows : List ℕ) → kind ≤ 6 → firstRefusal (twoWayTests Mark.TwoWay rows) ≡ openAnswer kind Mark.TwoWay rows

@@ -22,7 +22,7 @@ use Rattle.chordal.specs.Lists.{Ordered, Descendable}
 use Rattle.chordal.specs.Chordal.{IsChordlessCycle}
 use Rattle.chordal.specs.Answer.{chordalTests, chordal, cycle, Shown}
 use Rattle.chordal.proofs.Descent as descent
-use Rattle.chordal.proofs.Elimination.{no-cycle, first-gap, eliminates}
+use Rattle.chordal.proofs.Elimination.{order-excludes-cycle, first-gap, eliminates}
 use Rattle.chordal.proofs.Listing.{Filled, filled-length, filled-at, filled-behind}
 
 pub valid : (mark : Mark) (rows : List ℕ) (room : ℕ) → Accepts (chordalTests mark rows room) → Accepts (openTests (kindOf lexDfs) Mark.TwoWay rows) × (length rows ≤ room)
@@ -65,4 +65,4 @@ module _ (rows w before : List ℕ) (ordered : Ordered rows w) (room : length ro
       eliminates (arcs rows) (length rows) (ordered .both-ways) w (ordered .all) (none-found (length rows) (isTop (arcs rows) w) l top none) after
       (omega (arith, filled-length _ x)) (filled-at _ x)
       in
-      (no-cycle (arcs rows) (length rows) (ordered .both-ways) after order, order, filled-behind _ x)
+      (order-excludes-cycle (arcs rows) (length rows) (ordered .both-ways) after order, order, filled-behind _ x)

@@ -2,7 +2,7 @@
 -- any n.
 --   Earliest, earliest              the vertex of a cycle that stands first in an order of all vertices; the others stand later
 --   Neighbours, neighbours          the two vertices next to one on a chordless cycle are not linked
---   no-cycle                        so a graph with an elimination order has no chordless cycle
+--   order-excludes-cycle            so a graph with an elimination order has no chordless cycle
 --   gap-in, first-gap               the test for a gap: it holds where there is one, and then the first one is one
 --   eliminates                      without a gap, the vertices from the last to the first are an elimination order
 -- Assumes nothing.
@@ -133,8 +133,8 @@ module _ (arc : ℕ → ℕ → Bool) (n : ℕ) (symmetric : Symmetric arc n) wh
             }
 
   -- of the cycle's vertices take the one that stands first: its two neighbours stand later, and would have to be linked
-  pub no-cycle : (e : List ℕ) → IsEliminationOrder arc n e → Chordal arc n
-  no-cycle e order c m cycle =
+  pub order-excludes-cycle : (e : List ℕ) → IsEliminationOrder arc n e → Chordal arc n
+  order-excludes-cycle e order c m cycle =
       let f = earliest c m cycle e (order .all) in
       let two = neighbours c m cycle (f .p) (f .inside) in
       let y = f .others (two .q) (omega (arith, two .ordered, two .inside)) (two .q-other) in

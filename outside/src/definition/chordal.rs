@@ -21,8 +21,9 @@ fn neighbours(graph: &Graph, list: &[Vertex], v: Vertex) -> Vec<Vertex> {
     list.iter().copied().filter(|&u| graph.leads_to(u, v)).collect()
 }
 
-/// No chordless ring goes over a point whose neighbours are all linked to one another. Such points are removed one after
-/// the other. A plan without a chordless ring always has one, so the rings are in what is left.
+/// No chordless ring goes over a point whose neighbours are all linked to one another, so such points can be removed, one
+/// after the other. As long as points are left and there is no chordless ring among them, one of them is such a point
+/// (Dirac's theorem): so none is left in the end exactly if the plan has no chordless ring.
 pub fn is_chordal(graph: &Graph) -> bool {
     let mut left: Vec<Vertex> = graph.vertices().collect();
     while let Some(i) = left.iter().position(|&v| is_clique(graph, &neighbours(graph, &left, v))) {
