@@ -1,21 +1,15 @@
 // Rings, and plans with every link that another one has not.
-ghost use Prim.Native.Nat.{_≤_};
+ghost use Prim.Native.Nat.{_≤_, _<_};
 
 // The point before u on a ring of n, and the point after it.
 fn before(n: usize, u: usize) -> usize
-    requires { ⌜ n ≤ 64 ⌝ }
+    requires { ⌜ (u < n) × (n ≤ 64) ⌝ }
 {
-    if u == 0 && 0 < n {
-        n - 1
-    } else if u == 0 {
-        0
-    } else {
-        u - 1
-    }
+    if u == 0 { n - 1 } else { u - 1 }
 }
 
 fn after(n: usize, u: usize) -> usize
-    requires { ⌜ u ≤ 64 ⌝ }
+    requires { ⌜ (u < n) × (n ≤ 64) ⌝ }
 {
     if u + 1 == n { 0 } else { u + 1 }
 }
