@@ -17,6 +17,7 @@ use Rattle.chordal.specs.Chordal.{Symmetric, IsChordlessCycle, Chordal, 
 use Rattle.chordal.specs.Answer.{chordalTests, Answer, chordal, cycle, refused, refusalIn, Shown}
 use Rattle.chordal.proofs.Elimination as elimination
 use Rattle.chordal.proofs.AnyGraph as any-graph
+use Rattle.chordal.proofs.Deciding as deciding
 use Rattle.chordal.proofs.Stated as stated
 
 -- ---- for any graph
@@ -112,6 +113,10 @@ module _ (mark : Mark) (rows before : List ℕ) (answer : Answer) (after : List 
   -- and so do those after the cycle
   pub behind-cycle : (m : ℕ) → answer ≡ cycle m → drop m after ≡ drop m before
   behind-cycle m e = shown-as e .1
+
+  -- and whatever is answered, the list is as long as it was
+  pub output-length : length after ≡ length before
+  output-length = deciding.output-length mark rows before answer after told shown
 
 -- a two-way plan is refused with 2 to 5 exactly as open refuses it, whatever the kind
 pub two-way-as-open : (kind : ℕ) (rows : List ℕ) → kind ≤ 6 → firstRefusal (twoWayTests Mark.TwoWay rows) ≡ openAnswer kind Mark.TwoWay rows

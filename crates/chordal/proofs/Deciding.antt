@@ -3,24 +3,27 @@
 --   gap-found          the positions that the code finds are a gap
 --   cycle-shown        what is written from a gap is what is to be shown
 --   order-shown        and so are the vertices turned round where there is none
+--   output-length      an output list that is left so is as long as it was
 -- Assumes nothing.
 use Prim.Native.Nat.{ℕ, _≤_, _<_}
-use mathlib.Core.Path.{_≡_, sym, subst}
+use mathlib.Core.Path.{_≡_, sym, ap, _∙_, subst}
 use mathlib.Core.Logic.{_⊎_, inl, inr}
 use mathlib.Core.List.{List, _++_}
 use native.Mathlib.Omega.{arith}
 use lib.Dec.{lt→ltb}
-use lib.ListN.{length, drop}
+use lib.ListN.{length, drop, length-drop}
 use Rattle.bitset.proofs.Tests.{below-or}
 use Rattle.bitset.proofs.Passed.{none-found}
 use Rattle.searches.specs.Kind.{lexDfs, kindOf}
 use Rattle.searches.specs.Ordering.{arcs}
-use Rattle.searches.specs.Answer.{isTwoWay, openTests, twoWayTests, Accepts}
+use Rattle.searches.specs.Answer.{isTwoWay, openTests, twoWayTests, firstRefusal, Accepts}
 use Rattle.searches.specs.declared.Mark.{Mark}
+use Rattle.searches.proofs.Ordering.{ordering-fits}
+use Rattle.searches.proofs.Refusals.{none-accepts}
 use Rattle.chordal.specs.Descent.{Gap, isTop, firstLow, firstMiddle, firstTop, cycleLength, listed, cycleVertex, cycleOf, turned}
 use Rattle.chordal.specs.Lists.{Ordered, Descendable}
 use Rattle.chordal.specs.Chordal.{IsChordlessCycle}
-use Rattle.chordal.specs.Answer.{chordalTests, chordal, cycle, Shown}
+use Rattle.chordal.specs.Answer.{chordalTests, Answer, chordal, cycle, refused, refusalIn, Shown}
 use Rattle.chordal.proofs.Descent as descent
 use Rattle.chordal.proofs.Elimination.{order-excludes-cycle, first-gap, eliminates}
 use Rattle.chordal.proofs.Listing.{Filled, filled-length, filled-at, filled-behind}
@@ -66,3 +69,20 @@ module _ (rows w before : List ℕ) (ordered : Ordered rows w) (room : length ro
       (omega (arith, filled-length _ x)) (filled-at _ x)
       in
       (order-excludes-cycle (arcs rows) (length rows) (ordered .both-ways) after order, order, filled-behind _ x)
+
+-- two lists that have the same behind their first k entries
+same-length : (before after : List ℕ) (k : ℕ) → k ≤ length after → k ≤ length before → drop k after ≡ drop k before → length after ≡ length before
+same-length before after k l h e = let d = sym (length-drop k after) ∙ ap length e ∙ length-drop k before in omega (arith, d)
+
+pub output-length : (mark : Mark) (rows before : List ℕ) (answer : Answer) (after : List ℕ) → refusalIn answer ≡ firstRefusal (chordalTests mark rows (length before))
+    → Shown (arcs rows) (length rows) before answer after → length after ≡ length before
+unfolding refusalIn
+output-length mark rows before chordal after told shown =
+    let n = length rows in
+    let room = valid mark rows (length before) (none-accepts (chordalTests mark rows (length before)) (sym told)) .1 in
+    same-length before after n (shown .1 .all .long) room (shown .2)
+output-length mark rows before (cycle m) after told shown =
+    let n = length rows in
+    let room = valid mark rows (length before) (none-accepts (chordalTests mark rows (length before)) (sym told)) .1 in
+    same-length before after m (shown .0 .distinct .long) (omega (arith, room, ordering-fits n (shown .0 .distinct))) (shown .1)
+output-length mark rows before (refused r) after told shown = ap length shown
