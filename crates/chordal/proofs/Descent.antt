@@ -15,6 +15,7 @@ use mathlib.Core.Bool.{Bool, not, _&&_}
 use mathlib.Core.Logic.{_⊎_, inl, inr}
 use mathlib.Core.List.{List}
 use native.Mathlib.Omega.{arith}
+use lib.Arith.{lt-of-le-ne}
 use lib.Dec.{T, ltb, eqb, T-not, not-T, ltb→lt, lt→ltb, eqb→eq, eqb-refl}
 use lib.ListN.{length}
 use Rattle.bitset.specs.Below.{anyBelow, firstBelow}
@@ -143,23 +144,16 @@ module _ (arc : ℕ → ℕ → Bool) (n : ℕ) (w : List ℕ) (all : IsOrdering
         go (inl e) = omega arith
         go (inr o) = let h = o .0 in omega arith
 
-    above : (x : ℕ) → i ≤ x → (x ≡ i → ⊥) → i < x
-    above x h other = go (below-or i x)
-      where
-        go : (i < x) ⊎ (x ≤ i) → i < x
-        go (inl l) = l
-        go (inr l) = absurd (other (omega arith))
-
     pub descends : (s : ℕ) → s ≤ t → Descended s
     unfolding stop
     descends zero h = record { over = omega (arith, gap .low); under = omega arith }
     descends (suc s) h =
         let d = descends s (omega arith) in
-        let x = next-is (after s) (above (after s) (d .over) (not-yet s (omega arith))) (omega (arith, d .under)) in
+        let x = next-is (after s) (lt-of-le-ne (d .over) (λ e. not-yet s (omega arith) (sym e))) (omega (arith, d .under)) in
         record { over = is-over x; under = omega (arith, x .under, d .under) }
 
     pub stays-over : (s : ℕ) → s < t → i < after s
-    stays-over s h = above (after s) (descends s (omega arith) .over) (not-yet s h)
+    stays-over s h = lt-of-le-ne (descends s (omega arith) .over) (λ e. not-yet s h (sym e))
 
     pub moves : (s : ℕ) → s < t → IsNext (after s) (after (suc s))
     unfolding stop

@@ -12,6 +12,7 @@ use mathlib.Core.Bool.{Bool, not, _&&_}
 use mathlib.Core.Logic.{_⊎_, inl, inr}
 use mathlib.Core.List.{List}
 use native.Mathlib.Omega.{arith}
+use lib.Arith.{lt-of-le-ne}
 use lib.Dec.{T, T-not, not-T}
 use lib.ListN.{length}
 use Rattle.bitset.specs.Below.{anyBelow, firstBelow}
@@ -47,7 +48,7 @@ module _ (arc : ℕ → ℕ → Bool) (n : ℕ) (symmetric : Symmetric arc n) wh
           others = λ q h other.
               let y = place q h in
               let no-earlier = first-earliest n on (y .0) (placed-in c m (at e (y .0)) q h (sym (y .2))) in
-              (y .0, later x (y .0) no-earlier (λ same. other (same-position n (cycle .distinct) q (there .0) h (there .1) (sym (y .2) ∙ ap (λ (z : ℕ). at e z) (sym same) ∙ sym (there .2)))), y .1, y .2);
+              (y .0, lt-of-le-ne no-earlier (λ same. other (same-position n (cycle .distinct) q (there .0) h (there .1) (sym (y .2) ∙ ap (λ (z : ℕ). at e z) (sym same) ∙ sym (there .2)))), y .1, y .2);
         }
       where
         -- the vertex there is on the cycle
@@ -56,13 +57,6 @@ module _ (arc : ℕ → ℕ → Bool) (n : ℕ) (symmetric : Symmetric arc n) wh
 
         place : (q : ℕ) → q < m → (y : ℕ) × (y < n) × (at e y ≡ at c q)
         place q h = placed-out e n (at c q) (all-placed n all (at c q) (cycle .distinct .vertices q h))
-
-        later : (x y : ℕ) → x ≤ y → (x ≡ y → ⊥) → x < y
-        later x y h other = go (below-or x y)
-          where
-            go : (x < y) ⊎ (y ≤ x) → x < y
-            go (inl l) = l
-            go (inr l) = absurd (other (omega arith))
 
     record Neighbours (p : ℕ) : Type 0 where
       q : ℕ
