@@ -1,5 +1,5 @@
-//! The definitions of 01, and of MCS, the charge, one-way plans, the way back, the comparison, points out of service and
-//! plans without chordless rings from 02, computed as they read, by trying everything.
+//! The definitions of 01, and of MCS, the charge, one-way plans, the way back, the comparison, points out of service,
+//! plans without chordless rings and neighbour lists from 02, computed as they read, by trying everything.
 //!
 //!   Mark                        whether the links of a plan have a direction       [02: K4]
 //!   Graph                       a plan: one row of 64 bits for each point          [01: plan]
@@ -18,6 +18,7 @@
 //!   way_back                    the way back from a point of a BFS walk            [02: K5]
 //!   stance                      how one of two unplaced points stands to the other [02: K6]
 //!   chordal                     plans without chordless rings                      [02: K9]
+//!   neighbour_lists             plans as neighbour lists: converted and judged     [02: K10]
 
 /// A point's number.
 pub type Vertex = usize;
@@ -284,6 +285,7 @@ pub fn carry_on(
 
 pub mod charge;
 pub mod chordal;
+pub mod neighbour_lists;
 pub mod open_walk;
 pub mod sheet;
 pub mod stance;

@@ -2,6 +2,7 @@
 --   Tried tests later      the later tests answer for all: none of those before them holds
 --   tried-none, tried-one, tried-first      before the first test, after one more, after a whole list of them
 --   refused-here, refused-before, accepted-here      what is then answered: at a test that holds, in an earlier list, at the end
+--   tried-list, refused-list      the same of a whole list of tests behind those that were tried
 --   rows-fit, entries-fit  what the tests that were passed say of the lists
 -- Assumes nothing.
 use mathlib.Core.Path.{_≡_, refl, sym, ap, _∙_, subst}
@@ -62,6 +63,12 @@ tried-first a b e = record { same = ap (λ (first : Option ℕ). otherwise first
 pub refused-before : (a b : List (ℕ × Bool)) {r : ℕ} → some r ≡ firstRefusal a → some r ≡ firstRefusal (a ++ b)
 unfolding otherwise
 refused-before a b e = ap (λ (first : Option ℕ). otherwise first (firstRefusal b)) e ∙ sym (first-of-both a b)
+
+pub tried-list : {tests : List (ℕ × Bool)} (a b : List (ℕ × Bool)) → Tried tests (a ++ b) → none ≡ firstRefusal a → Tried tests b
+tried-list a b t e = record { same = tried-first a b e .same ∙ t .same }
+
+pub refused-list : {tests : List (ℕ × Bool)} (a b : List (ℕ × Bool)) {r : ℕ} → Tried tests (a ++ b) → some r ≡ firstRefusal a → some r ≡ firstRefusal tests
+refused-list a b t e = refused-before a b e ∙ t .same
 
 -- ---- what the tests that were passed say of the lists
 

@@ -33,5 +33,6 @@ pub fn number(refusal: Refusal) -> u32
         Refusal::BarredOutOfRange => 23,
         Refusal::BarredVertex => 24,
         Refusal::OneWayGraph => 25,
+        Refusal::MalformedLists => 26,
     }
 }

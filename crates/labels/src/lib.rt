@@ -3,7 +3,7 @@
 // it is compared in every search but MNS. Only what is kept of unplaced vertices is changed and asked for. What is compared of a vertex, the comparison
 // of two, and the step that a placed vertex makes.
 pub mod profile;
-mod weight;
+pub mod weight;
 
 use crate::profile::Profile;
 use searches::Comparison;
@@ -72,7 +72,7 @@ pub fn tells_level(answer: Comparison) -> bool
 }
 
 // A vertex's smallest position once `latest` is put into its label: the one that it had, or where it had none `latest`.
-fn smallest_with(latest: u8, kept: u8) -> u8
+pub fn smallest_with(latest: u8, kept: u8) -> u8
     ensures { λ r. ⌜ r ≡ smallestWith latest kept ⌝ }
 {
     if kept == 64 { latest } else { kept }

@@ -229,6 +229,7 @@ number Refusal.NotPlaced = 22
 number Refusal.BarredOutOfRange = 23
 number Refusal.BarredVertex = 24
 number Refusal.OneWayGraph = 25
+number Refusal.MalformedLists = 26
 
 unfoldable pub verdictOf : Judgement → Verdict
 verdictOf Judgement.Passes = passes

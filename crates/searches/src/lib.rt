@@ -102,6 +102,8 @@ pub enum Refusal {
     BarredVertex,
     // 25
     OneWayGraph,
+    // 26
+    MalformedLists,
 }
 
 // What judging an ordering answers.

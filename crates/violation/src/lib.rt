@@ -81,7 +81,7 @@ fn completes(
 }
 
 // Of the vertices that complete a violation the one with the smallest number; 64 where there is none.
-fn first_by_number(
+pub fn first_by_number(
     kind: Kind,
     labels: &[u64; 64],
     weights: &[u64; 64],
@@ -131,7 +131,7 @@ fn first_by_position(
 }
 
 // The third vertex of the first violation: by position behind `j`, and where none is found there by number.
-fn first_last(
+pub fn first_last(
     kind: Kind,
     ordering: &[u8],
     k: usize,

@@ -14,6 +14,7 @@
 //!   l   points out of service, and several faults at once
 //!   m   the open walks with points out of service that a program of the library plays
 //!   n   the plans that a program of the library finds to have a chordless ring or none
+//!   o   the plans that a program of the library converts to neighbour lists and back, and the walks that it judges there
 
 mod barred;
 mod barred_walks;
@@ -26,6 +27,7 @@ mod document;
 mod either_mark;
 mod examples;
 mod faults;
+mod neighbour_lists;
 mod open_walks;
 mod printed;
 mod random_calls;
@@ -48,6 +50,7 @@ fn main() {
         + barred::compare()
         + faults::compare()
         + barred_walks::compare()
-        + chordal_plans::compare();
+        + chordal_plans::compare()
+        + neighbour_lists::compare();
     println!("all {calls} calls agree");
 }

@@ -1,0 +1,11 @@
+pub mod Numbers
+pub mod Neighbours
+pub mod OfRows
+pub mod OfLists
+pub mod Writing
+pub mod Answers
+pub mod Accepted
+pub mod Left
+pub mod Made
+pub mod Inverse
+pub mod Examples
