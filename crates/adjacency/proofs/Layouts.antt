@@ -11,7 +11,7 @@
 --   gather-start, gather-next, gather-end   a row, put together neighbour by neighbour
 -- Assumes nothing.
 use Prim.Native.Nat.{ℕ, zero, suc, _+_, _-_, _≤_, _<_, _^_}
-use mathlib.Core.Path.{_≡_, refl, sym, ap, ap₂, _∙_, subst, fun-ext}
+use mathlib.Core.Path.{_≡_, sym, ap, ap₂, _∙_, subst, fun-ext}
 use mathlib.Core.Bool.{Bool, true, false, not, _&&_, _||_}
 use mathlib.Core.List.{List}
 use mathlib.Core.Logic.{_⊎_, inl, inr, ⊎-elim}
@@ -20,13 +20,12 @@ use native.Mathlib.Numerals.{add-one}
 use lib.Dec.{T, ltb, leb, eqb, lt→ltb, ltb→lt, le→leb, leb→le, eqb→eq, eqb-refl, not-T}
 use lib.ListN.{length, getD, List·getD-eq-default}
 use Rattle.bitset.specs.Below.{anyBelow}
-use Rattle.bitset.specs.Word.{member, inserted, setBelow}
-use Rattle.bitset.proofs.Tests.{and-in, and-out, not-not, same-test, is-true, is-false, below-or, below-suc, three-ways}
-use Rattle.bitset.proofs.Below.{Some, any-out, any-at}
-use Rattle.bitset.proofs.Word.{member-zero, member-inserted, member-beyond, inserted-word, equal-members}
-use Rattle.bitset.proofs.Joining.{member-setBelow}
+use Rattle.bitset.specs.Word.{member, inserted}
+use Rattle.bitset.proofs.Tests.{and-in, and-out, not-not, same-test, is-true, is-false, below-or, below-suc}
+use Rattle.bitset.proofs.Below.{any-out, any-at}
+use Rattle.bitset.proofs.Word.{member-zero, member-inserted, inserted-word, equal-members}
 use Rattle.searches.specs.Ordering.{arcs, at}
-use Rattle.searches.specs.Answer.{vertexOutside, Accepts}
+use Rattle.searches.specs.Answer.{Accepts}
 use Rattle.searches.proofs.Refusals.{vertexOutside-in}
 use Rattle.adjacency.specs.Layout.{sizeOf, standsIn, arcsListed, fallsAt, unsortedIn, unsortedAt, formTests, rowsListed, IsCover, IsLayout}
 use Rattle.adjacency.proofs.Rows.{rowsOf-length, rowsOf-words, arcs-rowsOf}

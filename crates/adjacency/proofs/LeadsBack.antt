@@ -19,7 +19,7 @@ use Rattle.bitset.specs.Below.{anyBelow}
 use Rattle.bitset.proofs.Tests.{and-in, and-out, decided, below-suc, three-ways}
 use Rattle.bitset.proofs.Below.{any-out, any-at}
 use Rattle.searches.specs.Ordering.{at}
-use Rattle.adjacency.specs.Layout.{sizeOf, standsIn, arcsListed, oneWayIn, IsLayout}
+use Rattle.adjacency.specs.Layout.{sizeOf, arcsListed, oneWayIn, IsLayout}
 use Rattle.adjacency.specs.LeadsBack.{Looked, Met, Due}
 use Rattle.adjacency.proofs.Layouts.{Stands, stands-out, stands-at, offset-inside, offset-upto, offset-vertex, neighbours-ascend, arc-to}
 

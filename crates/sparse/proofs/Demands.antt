@@ -2,12 +2,12 @@
 -- comment says which sentence it is. n is the number of points and arc the relation that the lists give; the plan without the barred points is arc′ on the
 -- numbers below n′. Carry-on is on rows: on those of the layout.
 -- Assumes nothing.
-use Prim.Native.Nat.{ℕ, suc, _≤_, _<_}
+use Prim.Native.Nat.{ℕ, _≤_, _<_}
 use mathlib.Core.Path.{_≡_, sym, ap, _∙_, subst}
 use mathlib.Core.Bool.{Bool, false}
 use mathlib.Core.List.{List, _++_, reverse}
 use mathlib.Core.Logic.{_↔_, _⊎_, inl, inr}
-use mathlib.Core.Option.{none, some}
+use mathlib.Core.Option.{none}
 use native.Mathlib.Omega.{arith}
 use lib.Dec.{T}
 use lib.ListN.{length, take}
@@ -25,7 +25,7 @@ use Rattle.searches.specs.declared.Mark.{Mark}
 use Rattle.searches.proofs.Refusals.{none-accepts, accepts-none}
 use Rattle.searches.proofs.DemandsBarring as demands
 use Rattle.adjacency.specs.Layout.{sizeOf, arcsListed, formTests, rowsListed, IsLayout}
-use Rattle.adjacency.proofs.Layouts.{layout-of, size-suc, arcs-same, rows-length}
+use Rattle.adjacency.proofs.Layouts.{layout-of, arcs-same, rows-length}
 use Rattle.lookup.proofs.Symmetry.{rows-within}
 use Rattle.conversion.specs.Conversion.{offsetsOf, neighboursOf}
 use Rattle.conversion.proofs.Accepted.{form-accepted}

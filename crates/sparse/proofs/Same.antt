@@ -4,11 +4,12 @@
 --   no-bit-outside                  the rows of a layout have no bit outside
 --   open-tests-same, judge-tests-same   on a layout, the first test that holds is the one that holds on its rows
 --   listed-refuses, refuses-listed   judge's answer is refusal r exactly when r's test is the first that holds
+--   without-same                    the verdict on the rows is that on the relation
 --   large-refused                   with more than 64 vertices both are refused
 --   listed-judged                   on a layout, judge's answer is that on its rows
 --   rows-of-graph                   rows of the same graph as a layout are its rows
 -- Assumes nothing.
-use Prim.Native.Nat.{ℕ, suc, _≤_, _<_, _^_}
+use Prim.Native.Nat.{ℕ, _≤_, _<_}
 use mathlib.Core.Path.{_≡_, refl, sym, ap, ap₂, _∙_, subst}
 use mathlib.Core.Bool.{Bool, true, false, cond, _&&_}
 use mathlib.Core.List.{List, [], _∷_, _++_}
@@ -16,14 +17,13 @@ use mathlib.Core.Logic.{_⊎_, inl, inr}
 use mathlib.Core.Option.{Option, none, some}
 use native.Mathlib.Omega.{arith}
 use lib.Dec.{T, ltb}
-use lib.ListN.{length, getD}
+use lib.ListN.{length}
 use lib.Seq.{ext-getD}
 use borrow.Author.Tests.{lt-ltb, le-ltb}
-use Rattle.bitset.specs.Word.{member}
 use Rattle.bitset.specs.Matrix.{AreWords}
 use Rattle.bitset.proofs.Tests.{is-false, same-test, below-or}
 use Rattle.bitset.proofs.Word.{equal-members}
-use Rattle.searches.specs.Kind.{searchOf}
+use Rattle.searches.specs.Kind.{Search, searchOf}
 use Rattle.searches.specs.Ordering.{arcs}
 use Rattle.searches.specs.Violation.{Verdict, refused}
 use Rattle.searches.specs.Without.{judgeWithout}
@@ -34,11 +34,10 @@ use Rattle.searches.proofs.Refusals.{refuses-first, accepts-none, accepts-or-re
 use Rattle.searches.proofs.Answers.{accepts-both}
 use Rattle.searches.proofs.Barring.{refused-judge}
 use Rattle.checks.proofs.Tried.{tried-first}
-use Rattle.adjacency.specs.Layout.{sizeOf, arcsListed, formTests, selfLoopIn, oneWayIn, listedTests, rowsListed, columnsOf, IsLayout}
+use Rattle.adjacency.specs.Layout.{sizeOf, arcsListed, formTests, selfLoopIn, oneWayIn, listedTests, rowsListed, IsLayout}
 use Rattle.adjacency.proofs.Rows.{rowsOf-words, columns-transposed}
 use Rattle.adjacency.proofs.Layouts.{size-suc, arc-to, arcs-listed, arcs-same, rows-length}
 use Rattle.conversion.proofs.Accepted.{accepted-formed, accepted-layout}
-use Rattle.engine.specs.Lists.{Judgeable}
 use Rattle.engine.proofs.Calls.{judge-asked-accepted}
 use Rattle.sparse.specs.Lists.{JudgeableListed}
 use Rattle.sparse.specs.Judge.{openTestsListed, judgeTestsListed, judgeListed, SameGraph}
@@ -63,6 +62,11 @@ no-bit-outside {offsets} {neighbours} x =
     let inside = arc-to x (y .0) (y .1) (subst (λ (b : Bool). T b) (arcs-listed x (y .0) (y .1)) (y .5)) in
     omega (arith, inside, y .4, rows-length offsets neighbours))
 
+pub without-same : {offsets neighbours : List ℕ} → IsLayout offsets neighbours → (s : Search) (kept : ℕ → Bool) (w : List ℕ) (k : ℕ)
+    → judgeWithout s (arcs (rowsListed offsets neighbours)) (length (rowsListed offsets neighbours)) kept w k ≡ judgeWithout s (arcsListed offsets neighbours) (sizeOf offsets) kept w k
+without-same {offsets} {neighbours} x s kept w k =
+    ap₂ (λ (n : ℕ) (arc : ℕ → ℕ → Bool). judgeWithout s arc n kept w k) (rows-length offsets neighbours) (arcs-same x)
+
 -- ---- the tests, one after the other
 
 module _ (kind : ℕ) (mark : Mark) (barred : ℕ) (w : List ℕ) where
@@ -84,6 +88,14 @@ module _ (kind : ℕ) (mark : Mark) (barred : ℕ) (w : List ℕ) where
   -- 1 and 2 before them
   abbrev first-of : Bool → List (ℕ × Bool) → Option ℕ
   first-of many later = cond (ltb 6 kind) (some 1) (cond many (some 2) (firstRefusal later))
+
+  -- what judge answers, on any relation, once the tests were tried
+  abbrev answer : ℕ → (ℕ → ℕ → Bool) → Option ℕ → Verdict
+  answer n arc asked =
+      elim asked [
+        | none ↦ judgeWithout (searchOf kind) arc n (unbarred barred) w (length w)
+        | some r ↦ refused r
+      ]
 
   module _ (offsets neighbours : List ℕ) where
     open-listed : firstRefusal (openTestsListed kind mark offsets neighbours barred)
@@ -134,24 +146,13 @@ module _ (kind : ℕ) (mark : Mark) (barred : ℕ) (w : List ℕ) where
     listed-judged =
         ap (answer (sizeOf offsets) (arcsListed offsets neighbours)) judge-tests-same
         ∙ ap₂ (λ (n : ℕ) (arc : ℕ → ℕ → Bool). answer n arc (firstRefusal (judgeTestsBarring kind mark rows barred w))) (sym (rows-length offsets neighbours)) (sym (arcs-same x))
-      where
-        answer : ℕ → (ℕ → ℕ → Bool) → Option ℕ → Verdict
-        answer n arc asked =
-            elim asked [
-              | none ↦ judgeWithout (searchOf kind) arc n (unbarred barred) w (length w)
-              | some r ↦ refused r
-            ]
 
   -- ---- from the checks' answer to judge's
 
   module _ (offsets neighbours : List ℕ) where
     pub asked-refused : {q : ℕ} → some q ≡ firstRefusal (judgeTestsListed kind mark offsets neighbours barred w) → refused q ≡ judgeListed kind mark offsets neighbours barred w
     unfolding judgeListed
-    asked-refused e =
-        ap (λ (asked : Option ℕ). elim asked [
-          | none ↦ judgeWithout (searchOf kind) (arcsListed offsets neighbours) (sizeOf offsets) (unbarred barred) w (length w)
-          | some r ↦ refused r
-        ]) e
+    asked-refused e = ap (answer (sizeOf offsets) (arcsListed offsets neighbours)) e
 
     pub refuses-listed : (r : ℕ) → Refuses r (judgeTestsListed kind mark offsets neighbours barred w) → judgeListed kind mark offsets neighbours barred w ≡ refused r
     refuses-listed r x = sym (asked-refused (sym (refuses-first (judgeTestsListed kind mark offsets neighbours barred w) r x)))
@@ -167,19 +168,17 @@ module _ (kind : ℕ) (mark : Mark) (barred : ℕ) (w : List ℕ) where
       formed : none ≡ firstRefusal (formTests offsets neighbours)
       formed = sym (accepts-none (formTests offsets neighbours) (valid-formed kind mark offsets neighbours barred accepted))
 
-      asked : Judgeable (rowsListed offsets neighbours) (columnsOf (rowsListed offsets neighbours)) barred w (length w)
-          × (judgeWithout (searchOf kind) (arcs (rowsListed offsets neighbours)) (length (rowsListed offsets neighbours)) (unbarred barred) w (length w)
-          ≡ judgeBarring kind mark (rowsListed offsets neighbours) barred w)
-      asked =
-          judge-asked-accepted kind mark (rowsListed offsets neighbours) barred w (e ∙ judge-tests-same layout formed)
-          (columns-transposed (rowsListed offsets neighbours) (omega (arith, rows-length offsets neighbours, size-suc (layout .cover), layout .few)))
-
       pub asked-judgeable : JudgeableListed offsets neighbours barred w (length w)
-      asked-judgeable = record { layout = layout; judgeable = asked .0 }
+      asked-judgeable = record {
+        layout = layout;
+        judgeable =
+            judge-asked-accepted kind mark (rowsListed offsets neighbours) barred w (e ∙ judge-tests-same layout formed)
+            (columns-transposed (rowsListed offsets neighbours) (omega (arith, rows-length offsets neighbours, size-suc (layout .cover), layout .few))) .0;
+      }
 
-      pub asked-verdict : judgeWithout (searchOf kind) (arcs (rowsListed offsets neighbours)) (length (rowsListed offsets neighbours)) (unbarred barred) w (length w)
-          ≡ judgeListed kind mark offsets neighbours barred w
-      asked-verdict = asked .1 ∙ sym (listed-judged layout formed)
+      pub asked-verdict : judgeWithout (searchOf kind) (arcsListed offsets neighbours) (sizeOf offsets) (unbarred barred) w (length w) ≡ judgeListed kind mark offsets neighbours barred w
+      unfolding judgeListed
+      asked-verdict = ap (answer (sizeOf offsets) (arcsListed offsets neighbours)) e
 
     -- where no test holds, the answer is a verdict on the rows, and that is no refusal
     pub listed-refuses : (r : ℕ) → judgeListed kind mark offsets neighbours barred w ≡ refused r → Refuses r (judgeTestsListed kind mark offsets neighbours barred w)
@@ -203,24 +202,17 @@ module _ (kind : ℕ) (mark : Mark) (barred : ℕ) (w : List ℕ) where
       → judgeListed kind mark offsets neighbours barred w ≡ judgeBarring kind mark rows barred w
   unfolding judgeListed judgeBarring
   large-refused rows offsets neighbours many-rows many-offsets =
-      ap (answer (judgeWithout (searchOf kind) (arcsListed offsets neighbours) (sizeOf offsets) (unbarred barred) w (length w)))
-      (judge-listed offsets neighbours ∙ first-many (lt-ltb 65 (length offsets) many-offsets) _)
-      ∙ either _ _ (ltb 6 kind) ∙ sym (ap (answer (judgeWithout (searchOf kind) (arcs rows) (length rows) (unbarred barred) w (length w)))
-      (judge-rows rows ∙ first-many (lt-ltb 64 (length rows) many-rows) _))
+      ap (answer (sizeOf offsets) (arcsListed offsets neighbours)) (judge-listed offsets neighbours ∙ first-many (lt-ltb 65 (length offsets) many-offsets) _)
+      ∙ either (ltb 6 kind)
+      ∙ sym (ap (answer (length rows) (arcs rows)) (judge-rows rows ∙ first-many (lt-ltb 64 (length rows) many-rows) _))
     where
-      answer : Verdict → Option ℕ → Verdict
-      answer verdict asked =
-          elim asked [
-            | none ↦ verdict
-            | some r ↦ refused r
-          ]
-
       first-many : {many : Bool} → many ≡ true → (later : List (ℕ × Bool)) → first-of many later ≡ cond (ltb 6 kind) (some 1) (some 2)
       first-many e later = ap (λ (b : Bool). cond (ltb 6 kind) (some 1) (cond b (some 2) (firstRefusal later))) e
 
-      either : (a b : Verdict) (known : Bool) → answer a (cond known (some 1) (some 2)) ≡ answer b (cond known (some 1) (some 2))
-      either a b true = refl
-      either a b false = refl
+      either : (known : Bool)
+          → answer (sizeOf offsets) (arcsListed offsets neighbours) (cond known (some 1) (some 2)) ≡ answer (length rows) (arcs rows) (cond known (some 1) (some 2))
+      either true = refl
+      either false = refl
 
 -- ---- rows of the same graph
 

@@ -16,8 +16,9 @@ ghost use Rattle.bitset.specs.Below.{anyBelow, firstBelow};
 ghost use Rattle.searches.specs.Kind.{searchOf};
 ghost use Rattle.searches.specs.Answer.{verdictOf};
 ghost use Rattle.searches.specs.declared.Judgement.{Judgement};
-ghost use Rattle.violation.specs.Fault.{frontIn, firstIn, Searchable, firstFault};
+ghost use Rattle.violation.specs.Fault.{frontIn, firstIn, firstFault};
 ghost use Rattle.adjacency.specs.Layout.{IsLayout, sizeOf, rowsListed};
+ghost use Rattle.sparse.specs.Lists.{SearchableListed};
 
 // The vertices of `free` that `a` leads to; none where `a` leads to `b`, too.
 fn front_of(offsets: &[u16], neighbours: &[u8], free: u64, a: Vertex, b: Vertex) -> u64
@@ -43,10 +44,7 @@ fn first_first(
     free: u64,
     j: Position,
 ) -> Position
-    requires { ⌜
-        IsLayout (now offsets) (now neighbours)
-        × Searchable (searchOf (kind .0)) (rowsListed (now offsets) (now neighbours)) (now ordering) (length (now ordering)) (now labels) (now weights) free (j .0)
-        ⌝ }
+    requires { ⌜ SearchableListed (searchOf (kind .0)) (now offsets) (now neighbours) (now ordering) (now labels) (now weights) free (j .0) ⌝ }
     ensures { λ r. ⌜
         r .0 ≡ firstBelow (j .0) (firstIn (searchOf (kind .0)) (rowsListed (now (offsets .entry)) (now (neighbours .entry))) (now (ordering .entry)) (now (labels .entry)) free (j .0) (length (now (ordering .entry))))
         ⌝ }
@@ -77,8 +75,7 @@ pub fn first_violation(
     j: Position,
 ) -> Violation
     requires { ⌜
-        IsLayout (now offsets) (now neighbours)
-        × Searchable (searchOf (kind .0)) (rowsListed (now offsets) (now neighbours)) (now ordering) (length (now ordering)) (now labels) (now weights) free (j .0)
+        SearchableListed (searchOf (kind .0)) (now offsets) (now neighbours) (now ordering) (now labels) (now weights) free (j .0)
         × T (anyBelow (j .0) (firstIn (searchOf (kind .0)) (rowsListed (now offsets) (now neighbours)) (now ordering) (now labels) free (j .0) (length (now ordering))))
         ⌝ }
     ensures { λ r. ⌜

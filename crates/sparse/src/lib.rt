@@ -13,10 +13,9 @@ use searches::Position;
 ghost use mathlib.Core.Path.{_≡_};
 ghost use lib.ListN.{length};
 ghost use Rattle.searches.specs.Kind.{searchOf};
-ghost use Rattle.searches.specs.Ordering.{arcs};
 ghost use Rattle.searches.specs.Without.{judgeWithout};
 ghost use Rattle.searches.specs.Answer.{unbarred, verdictOf};
-ghost use Rattle.adjacency.specs.Layout.{rowsListed};
+ghost use Rattle.adjacency.specs.Layout.{sizeOf, arcsListed};
 ghost use Rattle.sparse.specs.Judge.{judgeListed};
 ghost use Rattle.sparse.specs.Lists.{JudgeableListed};
 
@@ -50,7 +49,7 @@ fn verdict(
     requires { ⌜ JudgeableListed (now offsets) (now neighbours) barred (now ordering) (length (now ordering)) ⌝ }
     ensures { λ r. ⌜
         verdictOf r
-        ≡ judgeWithout (searchOf (kind .0)) (arcs (rowsListed (now (offsets .entry)) (now (neighbours .entry)))) (length (rowsListed (now (offsets .entry)) (now (neighbours .entry)))) (unbarred barred) (now (ordering .entry)) (length (now (ordering .entry)))
+        ≡ judgeWithout (searchOf (kind .0)) (arcsListed (now (offsets .entry)) (now (neighbours .entry))) (sizeOf (now (offsets .entry))) (unbarred barred) (now (ordering .entry)) (length (now (ordering .entry)))
         ⌝ }
 {
     let mut labels = [0u64; 64];

@@ -8,14 +8,15 @@ use searches::Vertex;
 use steps::place::Stage;
 use steps::replay::Replayed;
 ghost use mathlib.Core.Path.{_≡_};
-ghost use Prim.Native.Nat.{_+_, _<_};
+ghost use Prim.Native.Nat.{_+_};
 ghost use lib.ListN.{length};
 ghost use Rattle.bitset.specs.Below.{firstBelow};
 ghost use Rattle.bitset.specs.Word.{inserted, removed};
 ghost use Rattle.searches.specs.Kind.{searchOf};
 ghost use Rattle.labels.specs.Words.{spreadTo, smallestTo, largestTo};
-ghost use Rattle.steps.specs.Steps.{grownBy, whole, labelsAfter, freeAfter, stopsAt, Staged, Placeable, Replayable};
-ghost use Rattle.adjacency.specs.Layout.{IsLayout, sizeOf, rowsListed, columnsOf};
+ghost use Rattle.steps.specs.Steps.{grownBy, labelsAfter, freeAfter, stopsAt, Staged};
+ghost use Rattle.adjacency.specs.Layout.{rowsListed};
+ghost use Rattle.sparse.specs.Lists.{allListed, PlaceableListed, ReplayableListed};
 
 // Places `vertex` at `position`, as `steps::place` does.
 fn place(
@@ -30,10 +31,7 @@ fn place(
     vertex: Vertex,
     position: Position,
 ) -> Stage
-    requires { ⌜
-        IsLayout (now offsets) (now neighbours) × (vertex .0 < sizeOf (now offsets))
-        × Placeable (searchOf (kind .0)) (rowsListed (now offsets) (now neighbours)) (columnsOf (rowsListed (now offsets) (now neighbours))) (now labels) (now smallest) (now largest) (now weights) stage (vertex .0) (position .0)
-        ⌝ }
+    requires { ⌜ PlaceableListed (searchOf (kind .0)) (now offsets) (now neighbours) (now labels) (now smallest) (now largest) (now weights) stage (vertex .0) (position .0) ⌝ }
     ensures set { λ r. ⌜ r .set ≡ inserted (stage .set) (vertex .0) ⌝ }
     ensures free { λ r. ⌜ r .free ≡ removed (stage .free) (vertex .0) ⌝ }
     ensures labels { λ r. ⌜ now (labels .exit) ≡ spreadTo (grownBy (rowsListed (now (offsets .entry)) (now (neighbours .entry))) (stage .free) (vertex .0)) (position .0) (now (labels .entry)) ⌝ }
@@ -80,13 +78,15 @@ pub fn replay(
     largest: &mut [u8; 64],
     weights: &mut [u64; 64],
 ) -> Replayed
-    requires { ⌜
-        IsLayout (now offsets) (now neighbours)
-        × Replayable (rowsListed (now offsets) (now neighbours)) (columnsOf (rowsListed (now offsets) (now neighbours))) (whole (length (rowsListed (now offsets) (now neighbours))) barred) (now ordering) (length (now ordering)) (now labels) (now smallest) (now largest) (now weights)
+    requires { ⌜ ReplayableListed (now offsets) (now neighbours) barred (now ordering) (now labels) (now smallest) (now largest) (now weights) ⌝ }
+    ensures count { λ r. ⌜
+        r .count
+        ≡ firstBelow (length (now (ordering .entry))) (stopsAt (searchOf (kind .0)) (rowsListed (now (offsets .entry)) (now (neighbours .entry))) (allListed (now (offsets .entry)) (now (neighbours .entry)) barred) (now (ordering .entry)))
         ⌝ }
-    ensures count { λ r. ⌜ r .count ≡ firstBelow (length (now (ordering .entry))) (stopsAt (searchOf (kind .0)) (rowsListed (now (offsets .entry)) (now (neighbours .entry))) (whole (length (rowsListed (now (offsets .entry)) (now (neighbours .entry)))) barred) (now (ordering .entry))) ⌝ }
-    ensures free { λ r. ⌜ r .stage .free ≡ freeAfter (whole (length (rowsListed (now (offsets .entry)) (now (neighbours .entry)))) barred) (now (ordering .entry)) (r .count) ⌝ }
-    ensures labels { λ r. ⌜ now (labels .exit) ≡ labelsAfter (rowsListed (now (offsets .entry)) (now (neighbours .entry))) (whole (length (rowsListed (now (offsets .entry)) (now (neighbours .entry)))) barred) (now (ordering .entry)) (r .count) ⌝ }
+    ensures free { λ r. ⌜ r .stage .free ≡ freeAfter (allListed (now (offsets .entry)) (now (neighbours .entry)) barred) (now (ordering .entry)) (r .count) ⌝ }
+    ensures labels { λ r. ⌜
+        now (labels .exit) ≡ labelsAfter (rowsListed (now (offsets .entry)) (now (neighbours .entry))) (allListed (now (offsets .entry)) (now (neighbours .entry)) barred) (now (ordering .entry)) (r .count)
+        ⌝ }
     ensures staged { λ r. ⌜ Staged (searchOf (kind .0)) (now (labels .exit)) (now (weights .exit)) (r .stage) (r .count) ⌝ }
 {
     let k = ordering.len();

@@ -1,8 +1,6 @@
 -- `sparse::judge` meets its contract: refused as the checks say, else the verdict.
 -- Assumes nothing.
-use Prim.Native.Nat.{ℕ}
 use mathlib.Core.Path.{_≡_, sym, ap, _∙_}
-use mathlib.Core.List.{List}
 use mathlib.Core.Option.{none}
 use denote.Ref.{now}
 use Rattle.searches.specs.Answer.{firstRefusal, verdictOf, refusalOf}

@@ -12,7 +12,7 @@ use lib.Dec.{T}
 use lib.ListN.{set}
 use Rattle.searches.specs.Ordering.{at}
 use Rattle.adjacency.specs.Layout.{sizeOf}
-use Rattle.adjacency.specs.LeadsBack.{Due, LedBack}
+use Rattle.adjacency.specs.LeadsBack.{Due}
 use Rattle.adjacency.proofs.Layouts.{size-suc, offset-inside}
 use Rattle.adjacency.proofs.LeadsBack.{neighbour-vertex, due-missed, due-next}
 use Rattle.adjacency.proofs.arcs.leads_back.Statement.{statement}

@@ -1,13 +1,8 @@
 -- `adjacency::arcs::stands_in` meets its contract: at no position that was passed stands the number.
 -- Assumes nothing.
-use Prim.Native.Nat.{ℕ, _-_, _<_}
-use mathlib.Core.Path.{sym, ap, _∙_}
-use mathlib.Core.Bool.{_&&_}
-use lib.Dec.{T, leb, eqb}
-use native.Mathlib.Omega.{arith}
+use Prim.Native.Nat.{_-_}
+use mathlib.Core.Path.{sym, _∙_}
 use borrow.Author.Needs.{needs}
-use Rattle.searches.specs.Ordering.{at}
-use Rattle.adjacency.specs.Layout.{standsIn}
 use Rattle.adjacency.proofs.Layouts.{Unmet, unmet-start, unmet-next, met-here, unmet-end}
 use Rattle.adjacency.proofs.arcs.stands_in.Statement.{statement}
 use Rattle.adjacency.proofs.arcs.stands_in.Tie as tie

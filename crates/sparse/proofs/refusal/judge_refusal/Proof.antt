@@ -14,7 +14,6 @@ use Rattle.searches.specs.Answer.{vertexOutside, repeated, barredNamed, firstRe
 use Rattle.searches.proofs.Refusals.{none-accepts}
 use Rattle.checks.proofs.Tried.{Tried, tried-one, tried-first, refused-here, refused-before, accepted-here, entries-fit}
 use Rattle.adjacency.specs.Layout.{sizeOf, IsLayout}
-use Rattle.adjacency.proofs.Layouts.{size-suc}
 use Rattle.sparse.specs.Judge.{openTestsListed, judgeTestsListed}
 use Rattle.sparse.proofs.Same.{valid-layout}
 use Rattle.sparse.proofs.refusal.judge_refusal.Statement.{statement}

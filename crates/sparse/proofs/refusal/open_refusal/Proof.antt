@@ -10,7 +10,6 @@ use native.Mathlib.Omega.{arith}
 use borrow.Author.Tests.{lt-ltb, le-ltb}
 use Rattle.bitset.specs.Word.{fromUp}
 use Rattle.searches.specs.Answer.{barredOutside, firstRefusal, number, refusalOf}
-use Rattle.searches.proofs.Refusals.{none-accepts}
 use Rattle.checks.proofs.Tried.{Tried, tried-none, tried-one, tried-list, refused-here, refused-list, accepted-here}
 use Rattle.adjacency.specs.Layout.{sizeOf, listedTests}
 use Rattle.conversion.proofs.Accepted.{listed-layout}

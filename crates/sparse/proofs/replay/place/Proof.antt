@@ -20,7 +20,7 @@ cast-number : tie.Need-cast-number
 cast-number c = search needs
 
 row-of-requires : tie.Need-row-of-requires
-row-of-requires c κs = let s = c .before .before .before in (s .pre .0, s .pre .1)
+row-of-requires c κs = let s = c .before .before .before in (s .pre .layout, s .pre .vertex)
 
 insert-requires : tie.Need-insert-requires
 insert-requires c κs = tt
@@ -55,9 +55,9 @@ spread-requires c κs =
     let s = front .before .before .before .before .before .before .before .before in
     let a = s .args in
     let p = a .position .0 in (
-      s .pre .2 .bit,
-      s .pre .2 .staged .weighed,
-      subst (λ (x : ℕ). Tracked x (spreadTo x p (now (a .labels))) (smallestTo x p (now (a .smallest))) (largestTo x p (now (a .largest)))) (sym (grown front)) (tracked (s .pre .2 .consistent)),
+      s .pre .placeable .bit,
+      s .pre .placeable .staged .weighed,
+      subst (λ (x : ℕ). Tracked x (spreadTo x p (now (a .labels))) (smallestTo x p (now (a .smallest))) (largestTo x p (now (a .largest)))) (sym (grown front)) (tracked (s .pre .placeable .consistent)),
     )
 
 -- the labels with the position put in
@@ -103,11 +103,11 @@ offered-after-requires c κs =
     let removed = met .before in
     let s = removed .before .before .before .before .before .before in
     let at-labels = spread-is spread .0 in (
-      placed-narrows (s .pre .2) at-labels (removed .remove .ensures) (cut .remove2 .ensures) (grown front),
-      placed-covers (s .pre .2) at-labels (reached-is met),
-      placed-reaches (s .pre .2) at-labels (reached-is met) (removed .remove .ensures),
+      placed-narrows (s .pre .placeable) at-labels (removed .remove .ensures) (cut .remove2 .ensures) (grown front),
+      placed-covers (s .pre .placeable) at-labels (reached-is met),
+      placed-reaches (s .pre .placeable) at-labels (reached-is met) (removed .remove .ensures),
       spread .spread .ensures .1 .1 .1,
-      placed-leads (s .args .kind .0) (s .pre .2) at-labels (removed .remove .ensures) (reached-is met) (early-is early) (grown front),
+      placed-leads (s .args .kind .0) (s .pre .placeable) at-labels (removed .remove .ensures) (reached-is met) (early-is early) (grown front),
     )
 
 returns : tie.Need-returns
@@ -130,11 +130,11 @@ returns c =
             (
               is .2,
               record {
-                earlier = placed-earlier (s .pre .2) (is .0);
+                earlier = placed-earlier (s .pre .placeable) (is .0);
                 weighed = spread .spread .ensures .1 .1 .1;
                 offers = c .offered-after .ensures;
-                covers = placed-covers (s .pre .2) (is .0) (reached-is met);
-                reaches = placed-reaches (s .pre .2) (is .0) (reached-is met) (removed .remove .ensures);
+                covers = placed-covers (s .pre .placeable) (is .0) (reached-is met);
+                reaches = placed-reaches (s .pre .placeable) (is .0) (reached-is met) (removed .remove .ensures);
               },
             ),
           ),

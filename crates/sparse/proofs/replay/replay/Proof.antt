@@ -1,6 +1,7 @@
 -- `sparse::replay::replay` meets its contract.
 -- Assumes nothing.
 use Prim.Native.Nat.{ℕ, _-_, _<_}
+use mathlib.Core.List.{List}
 use mathlib.Core.Path.{_≡_, sym, ap, _∙_, subst}
 use mathlib.Core.Bool.{Bool, true, false, not}
 use lib.Dec.{T}
@@ -26,8 +27,14 @@ Inv-loop kind offsets neighbours barred ordering labels₀ smallest₀ largest�
 abbrev μ-loop : tie.MeasureT-loop
 μ-loop kind offsets neighbours barred ordering labels₀ smallest₀ largest₀ weights₀ k n all stage₀ j₀ labels smallest largest weights stage j = k - j
 
+abbrev rows-of : tie.Start Inv-loop μ-loop → List ℕ
+rows-of s = rowsListed (now (s .args .offsets)) (now (s .args .neighbours))
+
+abbrev all-of : tie.Start Inv-loop μ-loop → ℕ
+all-of s = whole (length (rows-of s)) (s .args .barred)
+
 sub-n : tie.Need-sub-n Inv-loop μ-loop
-sub-n c = let s = c .before .before .before in omega (arith, s .pre .0 .cover .some)
+sub-n c = let s = c .before .before .before in omega (arith, s .pre .layout .cover .some)
 
 full-below-requires : tie.Need-full-below-requires Inv-loop μ-loop
 full-below-requires c κs = search needs
@@ -40,13 +47,13 @@ unfolding whole sizeOf
 loop-holds c =
     let s = c .before .before .before .before .before in
     let a = s .args in
-    let rows = rowsListed (now (a .offsets)) (now (a .neighbours)) in
+    let rows = rows-of s in
     let n = length rows in
-    replay-start (searchOf (a .kind .0)) rows (whole n (a .barred)) (now (a .ordering)) (length (now (a .ordering))) (whole-inside (s .pre .1 .small) (a .barred)) (s .pre .1) (whole-word n (a .barred))
+    replay-start (searchOf (a .kind .0)) rows (whole n (a .barred)) (now (a .ordering)) (length (now (a .ordering))) (whole-inside (s .pre .replayable .small) (a .barred)) (s .pre .replayable) (whole-word n (a .barred))
     (c .without .ensures ∙ ap (λ (x : ℕ). difference x (a .barred)) (c .before .full-below .ensures ∙ ap fullBelow (sym (rows-length (now (a .offsets)) (now (a .neighbours))))))
 
 vertex-at-requires : tie.Need-vertex-at-requires Inv-loop μ-loop
-vertex-at-requires c κs = let s = c .before .before .before .before .before .before .before in omega (arith, s .pre .1 .long, c .loop-test .taken)
+vertex-at-requires c κs = let s = c .before .before .before .before .before .before .before in omega (arith, s .pre .replayable .long, c .loop-test .taken)
 
 is-open-requires : tie.Need-is-open-requires Inv-loop μ-loop
 is-open-requires c κs =
@@ -56,14 +63,15 @@ is-open-requires c κs =
 -- whether the vertex is offered
 answered : (c : tie.After-is-open Inv-loop μ-loop)
     → let l = c .before .before .before .before .before in
-    let a = l .before .before .before .before .before .before .args in
-    c .is-open .result ≡ not (stopsAt (searchOf (a .kind .0)) (rowsListed (now (a .offsets)) (now (a .neighbours))) (whole (length (rowsListed (now (a .offsets)) (now (a .neighbours)))) (a .barred)) (now (a .ordering)) (l .loop .j))
+    let s = l .before .before .before .before .before .before in
+    c .is-open .result ≡ not (stopsAt (searchOf (s .args .kind .0)) (rows-of s) (all-of s) (now (s .args .ordering)) (l .loop .j))
 answered c =
     let v = c .before .before .before in
     let l = v .before .before in
     let s = l .before .before .before .before .before .before in
     let a = s .args in
-    asked (searchOf (a .kind .0)) (rowsListed (now (a .offsets)) (now (a .neighbours))) (whole (length (rowsListed (now (a .offsets)) (now (a .neighbours)))) (a .barred)) (now (a .ordering)) (length (now (a .ordering))) (whole-inside (s .pre .1 .small) (a .barred)) (s .pre .1) (l .loop .inv) (v .before .loop-test .taken) (v .vertex-at .ensures) (c .is-open .ensures)
+    asked (searchOf (a .kind .0)) (rows-of s) (all-of s) (now (a .ordering)) (length (now (a .ordering)))
+    (whole-inside (s .pre .replayable .small) (a .barred)) (s .pre .replayable) (l .loop .inv) (v .before .loop-test .taken) (v .vertex-at .ensures) (c .is-open .ensures)
 
 returns : tie.Need-returns Inv-loop μ-loop
 returns c =
@@ -73,8 +81,8 @@ returns c =
     let s = l .before .before .before .before .before .before in
     let k = searchOf (s .args .kind .0) in
     let w = now (s .args .ordering) in
-    let r = rowsListed (now (s .args .offsets)) (now (s .args .neighbours)) in
-    let all = whole (length r) (s .args .barred) in
+    let r = rows-of s in
+    let all = all-of s in
     let i = l .loop .inv in
     let closed = said-false (not (stopsAt k r all w (l .loop .j))) (answered told) (not-true (told .is-open .result) (c .if1 .taken)) in (
       replay-stop k r all w (length w) i (v .before .loop-test .taken) (stops (stopsAt k r all w (l .loop .j)) closed),
@@ -91,18 +99,23 @@ place-requires c κs =
     let l = v .before .before in
     let s = l .before .before .before .before .before .before in
     let a = s .args in
-    let rows = rowsListed (now (a .offsets)) (now (a .neighbours)) in
-    let turn = v .before .loop-test .taken in (
-      s .pre .0,
-      subst (λ (b : ℕ). b < sizeOf (now (a .offsets))) (sym (v .vertex-at .ensures)) (omega (arith, s .pre .1 .vertices (l .loop .j) turn, rows-length (now (a .offsets)) (now (a .neighbours)))),
-      replay-placeable (searchOf (a .kind .0)) rows (whole (length rows) (a .barred)) (now (a .ordering)) (length (now (a .ordering))) (whole-inside (s .pre .1 .small) (a .barred)) (s .pre .1) (l .loop .inv) turn (v .vertex-at .ensures),
-    )
+    let rows = rows-of s in
+    let turn = v .before .loop-test .taken in
+    record {
+      layout = s .pre .layout;
+      vertex =
+          subst (λ (b : ℕ). b < sizeOf (now (a .offsets))) (sym (v .vertex-at .ensures))
+          (omega (arith, s .pre .replayable .vertices (l .loop .j) turn, rows-length (now (a .offsets)) (now (a .neighbours))));
+      placeable =
+          replay-placeable (searchOf (a .kind .0)) rows (whole (length rows) (a .barred)) (now (a .ordering)) (length (now (a .ordering)))
+          (whole-inside (s .pre .replayable .small) (a .barred)) (s .pre .replayable) (l .loop .inv) turn (v .vertex-at .ensures);
+    }
 
 add-j : tie.Need-add-j Inv-loop μ-loop
 add-j c =
     let v = c .before .before .before .before .before .before .before .before .before in
     let s = v .before .before .before .before .before .before .before .before in
-    omega (arith, v .before .loop-test .taken, s .pre .1 .fits, s .pre .1 .small)
+    omega (arith, v .before .loop-test .taken, s .pre .replayable .fits, s .pre .replayable .small)
 
 loop-less : tie.Need-loop-less Inv-loop μ-loop
 loop-less c = search needs
@@ -117,10 +130,11 @@ loop-again c =
     let a = s .args in
     let k = searchOf (a .kind .0) in
     let w = now (a .ordering) in
-    let r = rowsListed (now (a .offsets)) (now (a .neighbours)) in
-    let all = whole (length r) (a .barred) in
+    let r = rows-of s in
+    let all = all-of s in
     let e = c .place .ensures in
-    replay-next k r all w (length (now (a .ordering))) (whole-inside (s .pre .1 .small) (a .barred)) (s .pre .1) (l .loop .inv) (v .before .loop-test .taken) (v .vertex-at .ensures) (c .place .last .1 .1 .1 .0) (c .place .last .1 .1 .1 .1 .0)
+    replay-next k r all w (length (now (a .ordering)))
+    (whole-inside (s .pre .replayable .small) (a .barred)) (s .pre .replayable) (l .loop .inv) (v .before .loop-test .taken) (v .vertex-at .ensures) (c .place .last .1 .1 .1 .0) (c .place .last .1 .1 .1 .1 .0)
     (c .place .last .1 .1 .1 .1 .1 .0) (c .place .result)
     (goes-on (stopsAt k r all w (l .loop .j)) (said-true (not (stopsAt k r all w (l .loop .j))) (answered told) (not-false (told .is-open .result) (offers .if1 .left))))
     (e .1 .1 .0) (e .1 .1 .1 .0) (e .1 .1 .1 .1 .0) (e .0) (e .1 .0) (e .1 .1 .1 .1 .1)
@@ -135,8 +149,8 @@ returns-2 c =
     let s = l .before .before .before .before .before .before in
     let k = searchOf (s .args .kind .0) in
     let w = now (s .args .ordering) in
-    let r = rowsListed (now (s .args .offsets)) (now (s .args .neighbours)) in
-    let all = whole (length r) (s .args .barred) in
+    let r = rows-of s in
+    let all = all-of s in
     let i = l .loop .inv in
     let e : l .loop .j ≡ length w = omega (arith, i .upto) in (
       sym e ∙ replay-end k r all w (length w) i (omega arith),
