@@ -1,4 +1,5 @@
 -- The two conversions, for every input, and that each undoes the other.                                             [02, K10: a conversion each way]
+--   formed-exactly                   what 26 leaves
 --   rows-of-layout, layout-of-rows   the layout of rows and the rows of a layout
 --   lists-order, lists-refuse, lists-accept, lists-unchanged, lists-behind   `to_lists`: what it refuses, in which order, and what it leaves alone
 --   rows-order, rows-refuse, rows-accept, rows-unchanged, rows-behind   `to_rows` likewise
@@ -17,6 +18,7 @@ use Rattle.searches.specs.Answer.{Accepts, Refuses}
 use Rattle.searches.specs.declared.Mark.{Mark}
 use Rattle.searches.proofs.Refusals.{numbers, first-refuses, accepts-none, none-accepts}
 use Rattle.adjacency.specs.Layout.{sizeOf, formTests, listedTests, rowsListed, IsLayout}
+use Rattle.adjacency.proofs.Layouts.{layout-of}
 use Rattle.conversion.specs.Conversion.{neighboursOf, offsetsOf, rowsTests, toListsTests, toListsAnswer, offsetsLeft, neighboursLeft, toRowsTests, toRowsAnswer, rowsLeft}
 use Rattle.conversion.proofs.Accepted as accepted
 use Rattle.conversion.proofs.Answers.{lists-kept, rows-kept}
@@ -26,6 +28,11 @@ use Rattle.conversion.proofs.OfLists.{offsets-back, neighbours-back}
 use Rattle.conversion.proofs.OfRows.{rows-back}
 
 -- ---- the two layouts of a plan
+
+-- no case of refusal 26 holds exactly if the lists are a layout: the offsets start at 0, do not fall and end at the length of the neighbour list, and each
+-- point's neighbours are strictly ascending and below n
+pub formed-exactly : (offsets neighbours : List ℕ) → length offsets ≤ 65 → Accepts (formTests offsets neighbours) ↔ IsLayout offsets neighbours
+formed-exactly offsets neighbours few = (layout-of offsets neighbours few, accepted.form-accepted)
 
 -- the rows of the layout of rows are these rows: 64-bit words, at most 64 of them, with no bit outside
 pub rows-of-layout : (rows : List ℕ) → AreWords rows → Within rows → rowsListed (offsetsOf rows) (neighboursOf rows) ≡ rows

@@ -3,9 +3,9 @@
 -- numbers below n′. Carry-on is on rows: on those of the layout.
 -- Assumes nothing.
 use Prim.Native.Nat.{ℕ, _≤_, _<_}
-use mathlib.Core.Path.{_≡_, sym, ap, _∙_, subst}
+use mathlib.Core.Path.{_≡_, refl, sym, ap, _∙_, subst}
 use mathlib.Core.Bool.{Bool, false}
-use mathlib.Core.List.{List, _++_, reverse}
+use mathlib.Core.List.{List, [], _∷_, _++_, reverse}
 use mathlib.Core.Logic.{_↔_, _⊎_, inl, inr}
 use mathlib.Core.Option.{none}
 use native.Mathlib.Omega.{arith}
@@ -22,9 +22,9 @@ use Rattle.searches.specs.CarryOn.{CarriedOn}
 use Rattle.searches.specs.Without.{numberOf, numbered, named, arcsOf, IsKeptOrdering, FirstKept}
 use Rattle.searches.specs.Answer.{bitOutside, Accepts, Refuses, unbarred, openTestsBarring, judgeBarring, carryOnBarring, outputBarring}
 use Rattle.searches.specs.declared.Mark.{Mark}
-use Rattle.searches.proofs.Refusals.{none-accepts, accepts-none}
+use Rattle.searches.proofs.Refusals.{numbers, none-accepts, accepts-none}
 use Rattle.searches.proofs.DemandsBarring as demands
-use Rattle.adjacency.specs.Layout.{sizeOf, arcsListed, formTests, rowsListed, IsLayout}
+use Rattle.adjacency.specs.Layout.{sizeOf, arcsListed, formTests, listedTests, rowsListed, IsLayout}
 use Rattle.adjacency.proofs.Layouts.{layout-of, arcs-same, rows-length}
 use Rattle.lookup.proofs.Symmetry.{rows-within}
 use Rattle.conversion.specs.Conversion.{offsetsOf, neighboursOf}
@@ -74,7 +74,12 @@ module _ (kind : ℕ) (mark : Mark) (offsets neighbours : List ℕ) (barred : �
           judge-same formed w
           ∙ ap (λ (r : List ℕ). judgeBarring kind mark r barred w) (rows-of-graph (layout-of offsets neighbours few formed) same words within)
 
-  -- ---- Demand 1: each refusal in its stated case and no other
+  -- ---- Demand 1: judge tries 1, 2, the six cases of 26, 4, 5, 23, 6, 8, 9 and 24, in this order,
+  pub judge-order : (w : List ℕ) → numbers (judgeTestsListed kind mark offsets neighbours barred w) ≡ 1 ∷ 2 ∷ 26 ∷ 26 ∷ 26 ∷ 26 ∷ 26 ∷ 26 ∷ 4 ∷ 5 ∷ 23 ∷ 6 ∷ 8 ∷ 9 ∷ 24 ∷ []
+  unfolding numbers judgeTestsListed openTestsListed listedTests formTests
+  judge-order w = refl
+
+  -- and gives each refusal in its stated case and no other
 
   pub judge-refuses : (w : List ℕ) (r : ℕ) → (judgeListed kind mark offsets neighbours barred w ≡ refused r) ↔ Refuses r (judgeTestsListed kind mark offsets neighbours barred w)
   judge-refuses w r = (listed-refuses kind mark barred w offsets neighbours r, refuses-listed kind mark barred w offsets neighbours r)
