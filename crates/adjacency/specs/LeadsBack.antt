@@ -4,7 +4,7 @@
 --   Met offsets neighbours due x v    x stands in v's list before the position that is due there
 --   Due offsets neighbours due e      `due` has for each vertex a position of its list: before it stand exactly the vertices whose arc to it stands at one of
 --                                     the first e positions
---   LedBack offsets neighbours due u r   what is known once the neighbours of u were looked at, with r whether each leads back to u
+--   LedBack offsets neighbours due u r   what is known once the neighbours of u were looked at, with r whether u was due in the list of each
 use Prim.Native.Nat.{ℕ, suc, _≤_, _<_}
 use mathlib.Core.Path.{_≡_}
 use mathlib.Core.Bool.{Bool, true, false}

@@ -37,8 +37,9 @@ pub fn self_loop(offsets: &[u16], neighbours: &[u8]) -> bool
     false
 }
 
-// Whether every neighbour of `u` leads back to it. `due` has for each vertex the position in its own list up to which that list was met: the vertices
-// that lead to it come in ascending order, and its list has its neighbours in that order, so where each leads back, `u` is the next one there.
+// Whether `u` is due in the list of each of its neighbours. `due` has for each vertex the position in its own list up to which that list was met: the
+// vertices that lead to it come in ascending order, and its list has its neighbours in that order, so where every arc has an arc back, `u` is the next one
+// there. Where it is not, some arc has none back.
 fn leads_back(offsets: &[u16], neighbours: &[u8], due: &mut [u16; 64], u: usize) -> bool
     requires { ⌜ IsLayout (now offsets) (now neighbours) × (u < sizeOf (now offsets)) × Due (now offsets) (now neighbours) (now due) (at (now offsets) u) ⌝ }
     ensures { λ r. ⌜ LedBack (now (offsets .entry)) (now (neighbours .entry)) (now (due .exit)) u r ⌝ }
