@@ -1,5 +1,6 @@
 //! The definitions of 01, and of MCS, the charge, one-way plans, the way back, the comparison, points out of service,
-//! plans without chordless rings and neighbour lists from 02, computed as they read, by trying everything.
+//! plans without chordless rings, neighbour lists and judgements in words from 02, computed as they read, by trying
+//! everything.
 //!
 //!   Mark                        whether the links of a plan have a direction       [02: K4]
 //!   Graph                       a plan: one row of 64 bits for each point          [01: plan]
@@ -19,6 +20,7 @@
 //!   stance                      how one of two unplaced points stands to the other [02: K6]
 //!   chordal                     plans without chordless rings                      [02: K9]
 //!   neighbour_lists             plans as neighbour lists: converted and judged     [02: K10]
+//!   wording                     the judgement in words                             [02: K11]
 
 /// A point's number.
 pub type Vertex = usize;
@@ -292,6 +294,7 @@ pub mod stance;
 mod violation;
 pub mod way_back;
 pub mod without;
+pub mod wording;
 
 pub use violation::{first_violation, first_violation_where};
 use without::{is_barred, Without};

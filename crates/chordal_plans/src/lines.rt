@@ -5,14 +5,9 @@ use notation::put;
 use notation::show;
 use notation::show_bar;
 use notation::show_list;
+use notation::show_plan;
 use searches::Mark;
 ghost use Prim.Native.Nat.{_≤_};
-
-fn show_plan(rows: &[u64]) {
-    for u in 0..rows.len() {
-        show(rows[u]);
-    }
-}
 
 // The answer: y for a plan without a chordless ring, n and the length of the ring, or r and the number of the refusal.
 pub fn show_answer(answer: Chordality) {

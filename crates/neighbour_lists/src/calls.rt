@@ -4,6 +4,7 @@ use notation::put;
 use notation::show;
 use notation::show_bar;
 use notation::show_list;
+use notation::show_plan;
 use searches::Kind;
 use searches::Mark;
 ghost use Prim.Native.Nat.{_≤_};
@@ -11,7 +12,7 @@ ghost use Prim.Native.Nat.{_≤_};
 fn play_to_lists(mark: Mark, rows: &[u64], offsets: &mut [u16], neighbours: &mut [u8]) {
     lines::show_call(b'l', mark);
     show_bar();
-    lines::show_plan(rows);
+    show_plan(rows);
     show_bar();
     show(offsets.len() as u64);
     show(neighbours.len() as u64);
@@ -33,7 +34,7 @@ fn play_to_rows(mark: Mark, offsets: &[u16], neighbours: &[u8], rows: &mut [u64]
     show(rows.len() as u64);
     lines::show_outcome(conversion::to_rows(mark, offsets, neighbours, rows));
     show_bar();
-    lines::show_plan(rows);
+    show_plan(rows);
     put(b'\n');
 }
 

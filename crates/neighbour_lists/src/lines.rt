@@ -14,13 +14,6 @@ pub fn show_call(letter: u8, mark: Mark) {
     show(notation::number(mark));
 }
 
-// Prints rows.
-pub fn show_plan(rows: &[u64]) {
-    for u in 0..rows.len() {
-        show(rows[u]);
-    }
-}
-
 // An offset as a number that can be printed.
 fn wide_offset(offset: u16) -> u64 {
     offset as u64

@@ -1,24 +1,9 @@
 // Walks on the lists of a plan: random ones, and such as carry-on makes.
 use crate::listed;
-use plans::chosen;
-use plans::next;
+use plans::shuffled;
 use searches::Kind;
 use searches::Mark;
 ghost use Prim.Native.Nat.{_≤_};
-
-// The points of the set in a random order; the places behind them are 0.
-fn shuffled(set: u64, random: u64) -> [u8; 64] {
-    let mut walk = [0u8; 64];
-    let mut left = set;
-    let mut r = random;
-    for p in 0..64 {
-        r = next(r);
-        let point = chosen(left, r);
-        walk[p] = point;
-        left = bitset::remove(left, point as usize);
-    }
-    walk
-}
 
 fn unbarred(n: usize, barred: u64) -> u64 {
     bitset::without(bitset::full_below(n), barred)

@@ -71,6 +71,13 @@ pub fn show_places(places: [u8; 64], k: usize) {
     }
 }
 
+// Prints the rows of a plan.
+pub fn show_plan(rows: &[u64]) {
+    for u in 0..rows.len() {
+        show(rows[u]);
+    }
+}
+
 // Prints the bytes of a list.
 pub fn show_list(list: &[u8]) {
     for p in 0..list.len() {

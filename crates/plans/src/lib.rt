@@ -36,6 +36,20 @@ pub fn chosen(set: u64, random: u64) -> u8 {
     (u64::trailing_zeros(few) % 64) as u8
 }
 
+// The points of the set in a random order; the places behind them are 0.
+pub fn shuffled(set: u64, random: u64) -> [u8; 64] {
+    let mut walk = [0u8; 64];
+    let mut left = set;
+    let mut r = random;
+    for p in 0..64 {
+        r = next(r);
+        let point = chosen(left, r);
+        walk[p] = point;
+        left = bitset::remove(left, point as usize);
+    }
+    walk
+}
+
 fn random_set(links: u8, random: u64) -> u64 {
     let x = random >> 20;
     let y = random >> 40;

@@ -42,7 +42,7 @@ use Rattle.searches.proofs.Examples.{rowOf, rowsOf, P}
 
 -- ---- searches by their kind bytes
 
-search-of-kind : (s : Search) → searchOf (kindOf s) ≡ s
+pub search-of-kind : (s : Search) → searchOf (kindOf s) ≡ s
 unfolding searchOf kindOf
 search-of-kind generic = refl
 search-of-kind bfs = refl
@@ -55,7 +55,7 @@ search-of-kind mcs = refl
 same-search : (s x : Search) → T (eqb (kindOf s) (kindOf x)) → x ≡ s
 same-search s x e = sym (search-of-kind x) ∙ ap searchOf (sym (eqb→eq (kindOf s) (kindOf x) e)) ∙ search-of-kind s
 
-kind-below : (s : Search) → kindOf s < 7
+pub kind-below : (s : Search) → kindOf s < 7
 unfolding kindOf
 kind-below generic = omega arith
 kind-below bfs = omega arith

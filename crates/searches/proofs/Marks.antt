@@ -5,7 +5,7 @@
 --   valid-both-ways                           every link of a valid two-way graph goes both ways
 --   either-open, either-judge, either-carryOn   where every link goes both ways, both marks get the same answers
 --   judge-tests                               and judge's tests are the same
---   five-two-way-barring, either-open-barring, either-judge-barring, either-carryOn-barring   likewise where vertices are barred
+--   five-two-way-barring, either-open-barring, either-judge-barring, either-carryOn-barring, judge-tests-barring   likewise where vertices are barred
 -- Assumes nothing.
 use mathlib.Core.Path.{_≡_, refl, sym, ap, _∙_, subst}
 use mathlib.Core.Logic.{⊎-elim, _↔_}
@@ -149,7 +149,7 @@ module _ (kind : ℕ) (mark mark′ : Mark) (rows : List ℕ) (both : BothWays r
   unfolding openBarring
   either-open-barring barred = ap firstRefusal (open-tests-barring barred)
 
-  judge-tests-barring : (barred : ℕ) (w : List ℕ) → judgeTestsBarring kind mark rows barred w ≡ judgeTestsBarring kind mark′ rows barred w
+  pub judge-tests-barring : (barred : ℕ) (w : List ℕ) → judgeTestsBarring kind mark rows barred w ≡ judgeTestsBarring kind mark′ rows barred w
   unfolding judgeTestsBarring
   judge-tests-barring barred w = rw (open-tests-barring barred)
 

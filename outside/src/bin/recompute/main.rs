@@ -15,6 +15,7 @@
 //!   m   the open walks with points out of service that a program of the library plays
 //!   n   the plans that a program of the library finds to have a chordless ring or none
 //!   o   the plans that a program of the library converts to neighbour lists and back, and the walks that it judges there
+//!   p   the walks that a program of the library judges in words
 
 mod barred;
 mod barred_walks;
@@ -31,6 +32,7 @@ mod neighbour_lists;
 mod open_walks;
 mod printed;
 mod random_calls;
+mod sentences;
 mod sheets;
 mod small_plans;
 mod ways_back;
@@ -51,6 +53,7 @@ fn main() {
         + faults::compare()
         + barred_walks::compare()
         + chordal_plans::compare()
-        + neighbour_lists::compare();
+        + neighbour_lists::compare()
+        + sentences::compare();
     println!("all {calls} calls agree");
 }

@@ -1,9 +1,9 @@
--- `neighbour_lists::walks::shuffled` writes to places that are there.
+-- `plans::shuffled` writes to places that are there.
 -- Assumes nothing.
 use Prim.Native.Nat.{_≤_, _-_}
 use borrow.Author.Needs.{needs}
-use Rattle.neighbour_lists.proofs.walks.shuffled.Statement.{statement}
-use Rattle.neighbour_lists.proofs.walks.shuffled.Tie as tie
+use Rattle.plans.proofs.shuffled.Statement.{statement}
+use Rattle.plans.proofs.shuffled.Tie as tie
 
 abbrev Inv-loop : tie.InvT-loop
 Inv-loop set random walk₀ left₀ r₀ p₀ walk left r p = p ≤ 64

@@ -1,10 +1,10 @@
--- `chordal_plans::lines::show_plan` reads what the list has.
+-- `notation::show_plan` reads what the list has.
 -- Assumes nothing.
 use lib.ListN.{length}
 use Prim.Native.Nat.{_≤_, _-_}
 use borrow.Author.Needs.{needs}
-use Rattle.chordal_plans.proofs.lines.show_plan.Statement.{statement}
-use Rattle.chordal_plans.proofs.lines.show_plan.Tie as tie
+use Rattle.notation.proofs.show_plan.Statement.{statement}
+use Rattle.notation.proofs.show_plan.Tie as tie
 
 abbrev Inv-loop : tie.InvT-loop
 Inv-loop rows u₀ u-end u = u-end ≤ length rows

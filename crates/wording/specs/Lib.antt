@@ -1,0 +1,5 @@
+pub mod Text
+pub mod Decimal
+pub mod Sentence
+pub mod Answer
+pub mod Reading
