@@ -12,10 +12,10 @@ use Prim.Native.String.{String}
 use lib.ListN.{length, drop, replicate}
 use Rattle.bitset.specs.Below.{anyBelow, firstBelow, countBelow}
 use Rattle.bitset.specs.Word.{member}
-use Rattle.searches.specs.Kind.{Search, lexBfs, lexDfs, mcs, searchOf}
+use Rattle.searches.specs.Kind.{lexBfs, lexDfs, mcs, searchOf}
 use Rattle.searches.specs.Ordering.{arcs, placed}
 use Rattle.searches.specs.Label.{label}
-use Rattle.searches.specs.Violation.{Verdict, passes, fails, condition, meets, violates, third, isLast, isFirst, isMiddle, judge}
+use Rattle.searches.specs.Violation.{passes, fails, condition, meets, violates, third, isLast, isFirst, isMiddle, judge}
 use Rattle.searches.specs.Without.{numberOf, nameOf, numbered, arcsOf, namedVerdict, judgeWithout}
 use Rattle.searches.specs.Answer.{bitOutside, selfLoop, oneWay, isTwoWay, vertexOutside, repeated, openTests, firstRefusal, unbarred, barredOutside, barredNamed, openTestsBarring, judgeTestsBarring, judgeBarring}
 use Rattle.searches.specs.declared.Mark.{Mark}

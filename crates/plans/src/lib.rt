@@ -1,4 +1,4 @@
-// Random plans, and random points of a set. The numbers are the same in every run.
+// Random plans, and random points and orders of the points of a set. The numbers are the same in every run.
 use searches::Mark;
 ghost use Prim.Native.Nat.{_<_, _≤_};
 

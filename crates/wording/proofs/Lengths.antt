@@ -1,11 +1,9 @@
 -- How long sentences are.
 --   failure-length      of a walk that fails, by the lengths of the name and of the numbers
---   PointsBelow m v     the points that v names are below m
---   sentence-fits       at most 54 bytes where these numbers fit in a byte,
+--   sentence-fits       at most 54 bytes where the numbers of the points fit in a byte,
 --   sentence-longest    at most 50 where they are below 64
 -- Assumes nothing.
-use mathlib.Core.Path.{_≡_, ap, _∙_}
-use mathlib.Core.List.{List, _++_}
+use mathlib.Core.Path.{_≡_}
 use Prim.Native.Nat.{ℕ, _+_, _≤_, _<_}
 use native.Mathlib.Omega.{arith}
 use lib.ListN.{length, length-append}
@@ -13,14 +11,9 @@ use Rattle.searches.specs.Kind.{Search}
 use Rattle.searches.specs.Violation.{Verdict, passes, fails, refused}
 use Rattle.wording.specs.Text.{bytes}
 use Rattle.wording.specs.Decimal.{decimal}
-use Rattle.wording.specs.Sentence.{name, sentence}
+use Rattle.wording.specs.Sentence.{name, sentence, PointsBelow}
 use Rattle.wording.proofs.Decimals.{short-two, short-three}
 use Rattle.wording.proofs.Named.{name-short}
-
-abbrev pub PointsBelow : ℕ → Verdict → Type 0
-PointsBelow m passes = Unit {0}
-PointsBelow m (fails a b c) = (a < m) × (b < m) × (c < m)
-PointsBelow m (refused r) = Unit {0}
 
 failure-length : (s : Search) (a b c : ℕ)
     → length (sentence s (fails a b c)) ≡ length (name s) + (10 + (length (decimal b) + (2 + (length (decimal a) + (10 + (length (decimal c) + (12 + (length (decimal b) + 1))))))))

@@ -1,12 +1,12 @@
 -- The names of the searches. Each rule is one test that is computed over all seven, and a law that says it of every search.
---   names-distinct    no two kinds have the same name
+--   all-differ        the test that no two names are equal;   names-distinct   so no two kinds have the same name
 --   rows, lengths     the table of the code;   row-long, row-named   the first bytes of a row, as many as its length says, are the name
 --   name-spaceless    no name has a space
 --   name-short        a name has at most seven bytes
 --   search-named      the search with the name of s is s
 --   kind-alone        no two kinds below 7 name the same search
 -- Assumes nothing.
-use mathlib.Core.Path.{_≡_, refl, sym, ap, _∙_, subst}
+use mathlib.Core.Path.{_≡_, sym, ap, _∙_, subst}
 use mathlib.Core.Bool.{Bool, true, not, _&&_}
 use mathlib.Core.List.{List, [], _∷_}
 use Prim.Native.Nat.{ℕ, _≤_, _<_}
@@ -33,11 +33,17 @@ of-each test all s =
 
 -- ---- the names are distinct
 
-pub names-distinct : (i j : ℕ) → i < j → j < 7 → name (searchOf i) ≡ name (searchOf j) → ⊥
+abbrev differ : ℕ → ℕ → Bool
+differ j i = not (same (nameAt i) (nameAt j))
+
+-- tested once, over all pairs
+all-differ : T (allBelow 7 (λ j. allBelow j (differ j)))
 unfolding allBelow searchOf name bytes same
+all-differ = tt
+
+pub names-distinct : (i j : ℕ) → i < j → j < 7 → name (searchOf i) ≡ name (searchOf j) → ⊥
 names-distinct i j l h e =
-    let each : ℕ → ℕ → Bool = λ j i. not (same (nameAt i) (nameAt j)) in
-    let here = all-out j (each j) (all-out 7 (λ j. allBelow j (each j)) tt j h) i l in
+    let here = all-out j (differ j) (all-out 7 (λ j. allBelow j (differ j)) all-differ j h) i l in
     T-not (same (nameAt i) (nameAt j)) here (subst (λ (b : List ℕ). T (same (nameAt i) b)) e (same-in (nameAt i)))
 
 -- ---- the table: a row of bytes for each kind, and how many of them are its name

@@ -3,11 +3,10 @@
 --   sentence-alone       equal sentences are of the same search and the same verdict
 -- Assumes nothing.
 use mathlib.Core.Path.{_≡_, refl, sym, ap, ap₂, _∙_}
-use mathlib.Core.Bool.{Bool, cond}
 use mathlib.Core.List.{List, _∷_, _++_, append-assoc}
 use Prim.Native.Nat.{ℕ}
 use lib.Dec.{T}
-use lib.ListN.{length, drop}
+use lib.ListN.{drop}
 use Rattle.searches.specs.Kind.{Search}
 use Rattle.searches.specs.Violation.{Verdict, passes, fails, refused}
 use Rattle.wording.specs.Text.{bytes}

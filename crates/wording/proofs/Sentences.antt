@@ -2,30 +2,28 @@
 -- is; the work is done in the modules that the proofs cite. First for any search and any verdict; then as the call answers.
 -- That plan and walk are not altered: they are passed as `&`. That the call ends is part of its proof.
 -- Assumes nothing.
-use mathlib.Core.Path.{_≡_, refl, sym, ap, ap₂, _∙_, subst}
+use mathlib.Core.Path.{_≡_, refl, sym, ap, ap₂, _∙_}
 use mathlib.Core.Logic.{_↔_, Iff·trans}
 use mathlib.Core.Bool.{Bool}
 use mathlib.Core.List.{List, [], _∷_, _++_, map}
 use mathlib.Core.Option.{Option, none, some}
 use Prim.Native.Nat.{ℕ, _≤_, _<_}
 use native.Mathlib.Omega.{arith}
-use lib.Dec.{ltb, ltb→lt, lt→ltb, nltb→le, not-T}
+use lib.Dec.{ltb, ltb→lt, lt→ltb}
 use lib.ListN.{length, take, drop}
 use lib.Seq.{take-at, drop-at}
-use Rattle.searches.specs.Kind.{Search, searchOf, kindOf}
+use Rattle.searches.specs.Kind.{Search, searchOf}
 use Rattle.searches.specs.Violation.{Verdict}
 use Rattle.searches.specs.Violation as verdicts
 use Rattle.searches.specs.declared.Mark.{Mark}
-use Rattle.searches.specs.Answer.{BothWays, openTests, openTestsBarring, judgeTestsBarring, judgeBarring, firstRefusal, Accepts, Refuses}
+use Rattle.searches.specs.Answer.{BothWays, openTests, openTestsBarring, judgeTestsBarring, judgeBarring, firstRefusal, Refuses}
 use Rattle.searches.proofs.Refusals.{refuses-first, accepts-none}
-use Rattle.searches.proofs.Answers.{accepts-both, both-accept}
 use Rattle.searches.proofs.Numbered.{refuses-earlier, earlier-refuses, at-out, at-in}
 use Rattle.searches.proofs.Marks.{judge-tests-barring, either-judge-barring}
 use Rattle.searches.proofs.DemandsBarring.{judge-refuses}
-use Rattle.wording.specs.Sentence.{name, sentence, Decided}
+use Rattle.wording.specs.Sentence.{name, sentence, Decided, PointsBelow}
 use Rattle.wording.specs.Reading.{searchNamed, readSentence}
 use Rattle.wording.specs.Answer.{roomTests, wordsTests, inWords, written, refused, wordsAnswer, wordsOutput}
-use Rattle.wording.proofs.Lengths.{PointsBelow}
 use Rattle.wording.proofs.Lengths as lengths
 use Rattle.wording.proofs.Named as named
 use Rattle.wording.proofs.ReadBack as reading

@@ -10,12 +10,12 @@
 use mathlib.Core.Path.{_≡_, refl, sym, ap, _∙_, subst}
 use mathlib.Core.Logic.{_⊎_, inl, inr}
 use mathlib.Core.Bool.{Bool}
-use mathlib.Core.List.{List, [], _∷_, _++_}
+use mathlib.Core.List.{List, _++_}
 use mathlib.Core.Option.{none, some}
 use Prim.Native.Nat.{ℕ, _+_, _≤_, _<_}
 use native.Mathlib.Omega.{arith}
 use lib.Dec.{ltb, ltb→lt, lt→ltb, nltb→le, not-T}
-use lib.ListN.{length, take, drop, length-append, length-drop}
+use lib.ListN.{length, drop, length-append, length-drop}
 use lib.Seq.{take-length}
 use Rattle.bitset.proofs.Tests.{below-or}
 use Rattle.searches.specs.Kind.{searchOf}
@@ -29,9 +29,9 @@ use Rattle.searches.proofs.Numbered.{Without}
 use Rattle.searches.proofs.Barring.{judge-refused, refused-judge, judged-kept, valid-graph}
 use Rattle.searches.proofs.DemandsBarring.{part-shown-first-kept}
 use Rattle.checks.proofs.Tried.{tried-first, refused-before}
-use Rattle.wording.specs.Sentence.{Decided}
+use Rattle.wording.specs.Sentence.{Decided, PointsBelow}
 use Rattle.wording.specs.Answer.{refusedWith, earlier, roomTests, wordsTests, inWords, Told, written, refused, wordsAnswer, wordsOutput}
-use Rattle.wording.proofs.Lengths.{PointsBelow, sentence-longest}
+use Rattle.wording.proofs.Lengths.{sentence-longest}
 
 module _ (kind : ℕ) (mark : Mark) (rows : List ℕ) (barred : ℕ) (w : List ℕ) where
   abbrev judged : List (ℕ × Bool)

@@ -1,8 +1,9 @@
 -- The sentence for a search and a verdict, as a list of bytes.
---   name s          the name of a search in words                                                  [02: K11, the seven search names]
---   sentence s v    what is said of a walk that was judged by s with the verdict v                 [02: K11, the two forms]
---   Decided v       v is a verdict on a walk, and no refusal
-use Prim.Native.Nat.{ℕ}
+--   name s            the name of a search in words                                                  [02: K11, the seven search names]
+--   sentence s v      what is said of a walk that was judged by s with the verdict v                 [02: K11, the two forms]
+--   Decided v         v is a verdict on a walk, and no refusal
+--   PointsBelow m v   the points that v names are below m
+use Prim.Native.Nat.{ℕ, _<_}
 use mathlib.Core.List.{List, [], _++_}
 use Rattle.searches.specs.Kind.{Search, generic, bfs, dfs, lexBfs, lexDfs, mns, mcs}
 use Rattle.searches.specs.Violation.{Verdict, passes, fails, refused}
@@ -34,3 +35,8 @@ abbrev pub Decided : Verdict → Type 0
 Decided passes = Unit {0}
 Decided (fails a b c) = Unit {0}
 Decided (refused r) = ⊥
+
+abbrev pub PointsBelow : ℕ → Verdict → Type 0
+PointsBelow m passes = Unit {0}
+PointsBelow m (fails a b c) = (a < m) × (b < m) × (c < m)
+PointsBelow m (refused r) = Unit {0}
