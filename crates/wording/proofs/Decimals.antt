@@ -1,7 +1,8 @@
 -- Decimal numbers: their digits count the number again, so no two numbers have the same.
 --   decimal-one, decimal-two, decimal-three   the digits of a number below 10, below 100, below 1000
 --   decimal-count                             what the digits of x count is x
---   decimal-digits                            they are digits;   decimal-some   and there is a first one
+--   decimal-digits                            they are digits
+--   decimal-unpadded                          the first one is not 0, but of 0 itself
 --   short-two, short-three                    at most two below 100, at most three below 1000
 -- Assumes nothing.
 use mathlib.Core.Path.{_≡_, refl, ap, _∙_, subst, sym}
@@ -66,6 +67,29 @@ digits-count (suc m) x l = go (below-or x 10) (digits-count m (x / 10))
 pub decimal-count : (x : ℕ) → value (decimal x) ≡ x
 unfolding decimal
 decimal-count x = digits-count (suc x) x (omega arith)
+
+-- ---- no 0 in front
+
+digits-unpadded : (m x : ℕ) (b : List ℕ) → x < m → 0 < x → digits m x ≡ 48 ∷ b → ⊥
+unfolding ones value valueFrom
+digits-unpadded zero x b l some e = absurd (omega arith)
+digits-unpadded (suc m) x b l some e = go (below-or x 10) (digits-unpadded m (x / 10))
+  where
+    -- the digits before the last one
+    more : (front : List ℕ) → digits m (x / 10) ≡ front → 0 < x / 10 → x / 10 < m → front ++ ones x ∷ [] ≡ 48 ∷ b → ((d : List ℕ) → digits m (x / 10) ≡ 48 ∷ d → ⊥) → ⊥
+    more [] q h k r rest = omega (arith, digits-count m (x / 10) k, ap value q)
+    more (c ∷ d) q h k r rest = let zeros : c ≡ 48 = cc in rest d (q ∙ ap (λ (y : ℕ). y ∷ d) zeros)
+
+    go : (x < 10) ⊎ (10 ≤ x) → ((d : List ℕ) → x / 10 < m → 0 < x / 10 → digits m (x / 10) ≡ 48 ∷ d → ⊥) → ⊥
+    go (inl s) rest = let last : ones x ≡ 48 = cc (digits-one m x s) in omega arith
+    go (inr h) rest =
+        let k : x / 10 < m = omega arith in
+        let g : 0 < x / 10 = omega arith in
+        more (digits m (x / 10)) refl g k (sym (digits-more m x h) ∙ e) (λ d. rest d k g)
+
+pub decimal-unpadded : (x : ℕ) (b : List ℕ) → 0 < x → decimal x ≡ 48 ∷ b → ⊥
+unfolding decimal
+decimal-unpadded x b some e = digits-unpadded (suc x) x b (omega arith) some e
 
 -- ---- digits, and how many
 

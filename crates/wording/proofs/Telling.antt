@@ -5,7 +5,7 @@
 --   words-first                        the first refusal, from judge's answer;   not-judged   judge has no test with the number 10
 --   accepted-in, accepted-out          nothing is refused exactly where judge gives a verdict and there is room
 --   words-refused, words-accepted      answer and output from the tests;   refused-words, written-words   the tests from the answer
---   output-length                      the output list is as long as it was
+--   room-enough, output-length         what is written fits, and the output list is as long as it was
 -- Assumes nothing.
 use mathlib.Core.Path.{_≡_, refl, sym, ap, _∙_, subst}
 use mathlib.Core.Logic.{_⊎_, inl, inr}

@@ -1,7 +1,7 @@
 -- What is written piece by piece.
---   Putting l at b out i     the first i bytes of b are written from at on;   putting-start, putting-next, putting-end
+--   Putting l at b out i        the first i bytes of b are written from at on;   putting-start, putting-room, putting-next, putting-end
 --   number-one, number-two, number-three   a number, digit by digit
---   Written l at text out end   the text stands from at on, up to end;   written-more   with a piece behind it
+--   Written l at text out end   the text stands from at on, up to end;   written-long, written-more   the list's length, and with a piece behind it
 --   Begun l text out end most   the same at the front of the list, with at most so many bytes;   begun-name, begun-room, begun-more, begun-whole
 --   front-left                  what stands behind a text at the front of a list
 --   clause-short, clauses-whole   words and a number behind them; a sentence made of such clauses
