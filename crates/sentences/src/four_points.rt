@@ -39,7 +39,7 @@ fn say_wrong(mark: Mark, plan: u64, barred: u64, walk: u64, k: usize)
     say_on(mark, plan, barred, walk, k, 96);
 }
 
-// 65 rows, of which 0 is linked to itself, and each other point leads to it.
+// 65 points, of which 0 is linked to itself, and each other one leads to it.
 fn too_many(mark: Mark) {
     let rows = [1u64; 65];
     let mut walk = [99u8; 66];
@@ -56,6 +56,7 @@ fn wrong_plans(mark: Mark) {
     say_wrong(mark, 0x02090102_00000000, 0x18, 0x99333000, 5);
 }
 
+// Likewise on the tree itself, with a set or a walk that is refused.
 fn wrong_walks(mark: Mark) {
     say_wrong(mark, TREE, 0x18, 0x99333000, 5);
     say_wrong(mark, TREE, 0x08, 0x99333000, 5);
