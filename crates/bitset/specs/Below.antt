@@ -6,6 +6,8 @@
 --   countBelow n f    how many numbers below n there are at which f holds
 --   differ f g p      p is in just one of the two sets
 --   within n f g      every number below n that is in f is in g
+--   only f g p        p is in f and not in g
+--   pastLast n f      one more than the greatest number below n in f, 0 where there is none
 -- Each search takes the top number first and leaves the rest unread once that decides.
 use Prim.Native.Nat.{ℕ, zero, suc}
 use mathlib.Core.Bool.{Bool, true, false, cond, not, _&&_, _||_, Bool·beq}
@@ -39,3 +41,9 @@ differ f g p = not (Bool·beq (f p) (g p))
 
 unfoldable pub within : ℕ → (ℕ → Bool) → (ℕ → Bool) → Bool
 within n f g = allBelow n (λ p. not (f p) || g p)
+
+unfoldable pub only : (ℕ → Bool) → (ℕ → Bool) → ℕ → Bool
+only f g p = f p && not (g p)
+
+unfoldable pub pastLast : ℕ → (ℕ → Bool) → ℕ
+pastLast n f = cond (anyBelow n f) (suc (lastBelow n f)) 0

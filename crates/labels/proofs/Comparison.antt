@@ -8,23 +8,22 @@
 -- Assumes nothing.
 use mathlib.Core.Path.{_≡_, refl, sym, ap, ap₂, _∙_, subst}
 use mathlib.Core.Bool.{Bool, true, false, not, _&&_}
-use mathlib.Core.Logic.{_⊎_, inl, inr, _≢_}
-use Prim.Native.Nat.{ℕ, zero, suc, _≤_, _<_, _^_}
+use mathlib.Core.Logic.{_≢_}
+use Prim.Native.Nat.{ℕ, zero, suc, _<_, _^_}
 use native.Mathlib.Omega.{arith}
-use lib.Dec.{T, ltb, leb, eqb, ltb→lt, lt→ltb, leb→le, le→leb, eqb→eq, eqb-refl, not-T, T-not}
-use Rattle.bitset.specs.Below.{anyBelow, firstBelow, lastBelow, differ, within}
+use lib.Dec.{T, ltb, leb, eqb, eqb→eq, eqb-refl, not-T, T-not}
+use Rattle.bitset.specs.Below.{anyBelow, firstBelow, lastBelow, differ, within, only}
 use Rattle.bitset.specs.Word.{member, difference, fromUp}
-use Rattle.bitset.proofs.Tests.{and-in, and-out, and-true, decided, same-test, three-ways, below-or}
-use Rattle.bitset.proofs.Below.{any-out, any-at, any-same, first, first-earliest}
-use Rattle.bitset.proofs.Sets.{within-in, within-out}
+use Rattle.bitset.proofs.Tests.{and-true, same-test}
+use Rattle.bitset.proofs.Below.{any-out, any-at, any-same, first-same}
 use Rattle.bitset.proofs.Word as word
 use Rattle.searches.specs.Kind.{Search, generic, bfs, dfs, lexBfs, lexDfs, mns, mcs, searchOf}
 use Rattle.searches.specs.Label.{empty, settled, outranks}
 use Rattle.searches.specs.Comparison.{toldBy, isAhead, isLevel}
 use Rattle.searches.specs.Violation.{condition, meets}
-use Rattle.searches.proofs.Reason.{Reason, outranks→reason, reason→outranks}
-use Rattle.searches.proofs.Level.{alike-within}
-use Rattle.searches.proofs.Comparing.{ahead-told, level-told, compared-mns, compared-ranked}
+use Rattle.searches.proofs.Comparing.{ahead-told, level-told}
+use Rattle.searches.proofs.ByNumbers as numbers
+use Rattle.searches.proofs.Unexcused as unexcused
 use Rattle.labels.specs.Words.{aheadIn, comparedIn, unexcusedIn}
 
 -- ---- words as sets
@@ -44,40 +43,8 @@ empty-word x h = same-test (not (anyBelow 64 (member x))) (eqb x 0) forth back
 
 module _ (c b : ℕ) where
   pub bfs-words : ltb (firstBelow 64 (member c)) (firstBelow 64 (member b)) ≡ aheadIn bfs c b
-  unfolding aheadIn condition
-  bfs-words =
-      same-test (ltb p q) (outranks bfs 64 (member c) (member b)) (λ t. reason→outranks 64 (member c) (member b) bfs (forth (ltb→lt p q t)))
-      (λ t. lt→ltb p q (back (outranks→reason 64 (member c) (member b) bfs t)))
-    where
-      p : ℕ
-      p = firstBelow 64 (member c)
-
-      q : ℕ
-      q = firstBelow 64 (member b)
-
-      forth : p < q → Reason (condition bfs) 64 (member c) (member b)
-      forth l =
-          let h : p < 64 = omega (arith, first 64 (member b) .within) in
-          record {
-            position = p;
-            below = h;
-            ours = first 64 (member c) .holds h;
-            theirs = first 64 (member b) .least p l;
-            unexcused = λ d i x y. first 64 (member b) .least d (omega (arith, ltb→lt d p y)) x;
-          }
-
-      back : Reason (condition bfs) 64 (member c) (member b) → p < q
-      back r = go (three-ways (r .position) q)
-        where
-          before : p ≤ r .position
-          before = first-earliest 64 (member c) (r .position) (r .ours)
-
-          go : (r .position < q) ⊎ ((r .position ≡ q) ⊎ (q < r .position)) → p < q
-          go (inl l) = omega (arith, before)
-          go (inr (inl e)) = absurd (r .theirs (subst (λ (x : ℕ). T (member b x)) (sym e) (first 64 (member b) .holds (omega (arith, r .below)))))
-          go (inr (inr l)) =
-              let i : q < 64 = omega (arith, r .below) in
-              absurd (r .unexcused q i (first 64 (member b) .holds i) (lt→ltb q (r .position) l))
+  unfolding aheadIn
+  bfs-words = sym (numbers.bfs-first 64 (member c) (member b))
 
   pub lexDfs-words : (anyBelow 64 (differ (member c) (member b)) && member c (lastBelow 64 (differ (member c) (member b)))) ≡ aheadIn lexDfs c b
   unfolding aheadIn outranks settled
@@ -97,23 +64,13 @@ module _ (c b : ℕ) where
 pub ranked-words : (s : Search) → s ≢ mns → (c b : ℕ) {ahead behind : Bool} → ahead ≡ aheadIn s c b → behind ≡ aheadIn s b c
     → toldBy ahead behind true ≡ comparedIn s c b
 unfolding comparedIn aheadIn
-ranked-words s other c b is is′ = ap₂ (λ (x y : Bool). toldBy x y true) is is′ ∙ compared-ranked s 64 (member c) (member b) other
-
-one-inclusion : (x y : Bool) → toldBy (x && not y) (y && not x) x ≡ toldBy (x && not y) (y && not x) (x && y)
-unfolding toldBy
-one-inclusion true true = refl
-one-inclusion true false = refl
-one-inclusion false true = refl
-one-inclusion false false = refl
+ranked-words s other c b is is′ = numbers.ranked-compared 64 (member c) (member b) s other is is′
 
 -- in MNS two inclusions do: where none is ahead, each holds or none does
 pub mns-compared : (c b : ℕ) {covers covered : Bool} → covers ≡ within 64 (member b) (member c) → covered ≡ within 64 (member c) (member b)
     → toldBy (covers && not covered) (covered && not covers) covers ≡ comparedIn mns c b
-unfolding comparedIn aheadIn
-mns-compared c b {covers} {covered} is is′ =
-    one-inclusion covers covered ∙ ap₂ (λ (x y : Bool). toldBy (x && not y) (y && not x) (x && y)) is is′
-    ∙ ap₂ (λ (x y : Bool). toldBy x y (within 64 (member b) (member c) && within 64 (member c) (member b))) (mns-words c b) (mns-words b c)
-    ∙ ap (toldBy (aheadIn mns c b) (aheadIn mns b c)) (alike-within 64 (member c) (member b)) ∙ compared-mns 64 (member c) (member b)
+unfolding comparedIn
+mns-compared c b is is′ = numbers.mns-compared 64 (member c) (member b) is is′
 
 -- the answer that the first is ahead
 pub ahead-answered : (s : Search) (c b : ℕ) → isAhead (comparedIn s c b) ≡ aheadIn s c b
@@ -168,87 +125,33 @@ searchOf-mns kind other same = go kind other (subst (λ (s : Search). T (isMns s
 -- ---- who is excused
 
 module _ (i c b : ℕ) where
-  -- no member of x that is a member of b and excuses by the test e
-  none-such : (x : ℕ → Bool) (e : ℕ → Bool) → ((d : ℕ) → d < 64 → (x d ≡ (member b d && e d))) → (r : Bool) → r ≡ not (anyBelow 64 x)
-      → r ≡ not (anyBelow 64 (λ d. member b d && e d))
-  none-such x e h r s = s ∙ ap not (any-same 64 x (λ d. member b d && e d) h)
-
   pub unexcused-generic : b < 2 ^ 64 → eqb b 0 ≡ unexcusedIn generic i c b
   unfolding unexcusedIn condition meets empty
-  unexcused-generic hb = none-such (member b) (λ d. true) (λ d l. and-true (member b d)) (eqb b 0) (sym (empty-word b hb))
+  unexcused-generic hb = sym (empty-word b hb) ∙ ap not (any-same 64 (member b) (λ d. member b d && true) (λ d _. and-true (member b d)))
 
   pub unexcused-mns : within 64 (member b) (member c) ≡ unexcusedIn mns i c b
-  unfolding unexcusedIn condition meets
-  unexcused-mns = same-test (within 64 (member b) (member c)) (not (anyBelow 64 outside)) forth back
-    where
-      outside : ℕ → Bool
-      outside d = member b d && not (member c d)
+  unfolding unexcusedIn
+  unexcused-mns = numbers.within-first 64 (member c) (member b) ∙ unexcused.unexcused-mns 64 i (member c) (member b)
 
-      forth : T (within 64 (member b) (member c)) → T (not (anyBelow 64 outside))
-      forth t = not-T (anyBelow 64 outside) (λ u.
-          let s = any-out 64 outside u in
-          let both = and-out (member b (s .at)) (not (member c (s .at))) (s .holds) in
-          T-not (member c (s .at)) (both .1) (within-out 64 (member b) (member c) t (s .at) (s .below) (both .0)))
-
-      back : T (not (anyBelow 64 outside)) → T (within 64 (member b) (member c))
-      back t = within-in 64 (member b) (member c) (λ d l x. in-c d l x (decided (member c d)))
-        where
-          in-c : (d : ℕ) → d < 64 → T (member b d) → T (member c d) ⊎ (T (member c d) → ⊥) → T (member c d)
-          in-c d l x (inl y) = y
-          in-c d l x (inr out) = absurd (T-not (anyBelow 64 outside) t (any-at 64 outside d l (and-in (member b d) (not (member c d)) x (not-T (member c d) out))))
-
--- a set has no number below i exactly when its first is not
-none-sooner : (i x : ℕ) → i < 64 → leb i (firstBelow 64 (member x)) ≡ not (anyBelow 64 (λ d. member x d && ltb d i))
-none-sooner i x l = same-test (leb i p) (not (anyBelow 64 low)) forth back
-  where
-    p : ℕ
-    p = firstBelow 64 (member x)
-
-    low : ℕ → Bool
-    low d = member x d && ltb d i
-
-    forth : T (leb i p) → T (not (anyBelow 64 low))
-    forth t = not-T (anyBelow 64 low) (λ u.
-        let s = any-out 64 low u in
-        let both = and-out (member x (s .at)) (ltb (s .at) i) (s .holds) in
-        omega (arith, leb→le i p t, ltb→lt (s .at) i (both .1), first-earliest 64 (member x) (s .at) (both .0)))
-
-    back : T (not (anyBelow 64 low)) → T (leb i p)
-    back t = le→leb i p (go (below-or p i))
-      where
-        go : (p < i) ⊎ (i ≤ p) → i ≤ p
-        go (inl h) =
-            let g : p < 64 = omega arith in
-            absurd (T-not (anyBelow 64 low) t (any-at 64 low p g (and-in (member x p) (ltb p i) (first 64 (member x) .holds g) (lt→ltb p i h))))
-        go (inr h) = h
-
-module _ (i c b : ℕ) where
   pub unexcused-bfs : i < 64 → leb i (firstBelow 64 (member b)) ≡ unexcusedIn bfs i c b
   unfolding unexcusedIn condition meets
-  unexcused-bfs l = none-sooner i b l
+  unexcused-bfs l = unexcused.none-sooner 64 i (member b) (omega arith)
 
   pub unexcused-lexBfs : i < 64 → leb i (firstBelow 64 (member (difference b c))) ≡ unexcusedIn lexBfs i c b
-  unfolding unexcusedIn condition meets
+  unfolding unexcusedIn only
   unexcused-lexBfs l =
-      none-such i c b (λ d. member (difference b c) d && ltb d i) (λ d. ltb d i && not (member c d))
-      (λ d _. ap (λ (x : Bool). x && ltb d i) (word.member-difference b c d) ∙ turned (member b d) (not (member c d)) (ltb d i))
-      (leb i (firstBelow 64 (member (difference b c)))) (none-sooner i (difference b c) l)
-    where
-      turned : (x y z : Bool) → ((x && y) && z) ≡ (x && (z && y))
-      turned true true true = refl
-      turned true true false = refl
-      turned true false true = refl
-      turned true false false = refl
-      turned false y z = refl
+      ap (λ (p : ℕ). leb i p) (first-same 64 (member (difference b c)) (only (member b) (member c)) (λ d _. word.member-difference b c d))
+      ∙ unexcused.unexcused-lexBfs 64 i (member c) (member b) (omega arith)
 
   pub unexcused-lexDfs : not (anyBelow 64 (fromUp (suc i) (difference b c))) ≡ unexcusedIn lexDfs i c b
-  unfolding unexcusedIn condition meets fromUp
+  unfolding unexcusedIn condition meets fromUp only
   unexcused-lexDfs =
-      none-such i c b (λ d. leb (suc i) d && member (difference b c) d) (λ d. ltb i d && not (member c d))
-      (λ d _. ap (λ (x : Bool). leb (suc i) d && x) (word.member-difference b c d) ∙ turned (member b d) (not (member c d)) (leb (suc i) d))
-      (not (anyBelow 64 (fromUp (suc i) (difference b c)))) refl
+      ap not (any-same 64 (fromUp (suc i) (difference b c)) (λ d. only (member b) (member c) d && ltb i d)
+      (λ d _. ap (λ (x : Bool). ltb i d && x) (word.member-difference b c d) ∙ swapped (ltb i d) (member b d && not (member c d))))
+      ∙ unexcused.only-turned 64 i (member c) (member b) (λ d. ltb i d)
     where
-      turned : (x y z : Bool) → (z && (x && y)) ≡ (x && (z && y))
-      turned true y z = refl
-      turned false y true = refl
-      turned false y false = refl
+      swapped : (x y : Bool) → (x && y) ≡ (y && x)
+      swapped true true = refl
+      swapped true false = refl
+      swapped false true = refl
+      swapped false false = refl

@@ -18,7 +18,7 @@ ghost use Rattle.labels.specs.Words.{Weighed, profileOf, comparedIn, spr
 ghost use Rattle.labels.specs.Weights.{Consistent};
 
 // The answer of three tests: the first that holds, and where none does, neither.
-fn told_by(ahead: bool, behind: bool, level: bool) -> Comparison
+pub fn told_by(ahead: bool, behind: bool, level: bool) -> Comparison
     ensures { λ r. ⌜ r ≡ toldBy ahead behind level ⌝ }
 {
     if ahead {

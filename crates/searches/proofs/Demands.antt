@@ -1,11 +1,11 @@
 -- The three demands, over the definitions that the functions' promises cite. Each theorem's comment says which sentence it is; the work is
 -- done in the modules that the proofs cite. Demand 1; then 2 and 3 for any graph, that is any relation `arc` on the vertices below n, of which a
--- plan is a case, two-way or one-way; then 2 and 3 as the calls answer on kind byte, mark, rows and lists.
+-- plan is a case, two-way or one-way; then 2 and 3 as the calls answer on kind byte, mark, rows and lists, which is `FormDemands` for rows.
 -- The contracts of judge and carry-on are equations with `judgeBarring`, `carryOnBarring` and `outputBarring`, for which `DemandsBarring` has the demands; with
 -- nothing barred these are `judgeAnswer`, `carryOnAnswer` and `carryOnOutput` (`NothingBarred`). A list that a contract does not name at exit is passed as `&`
 -- and cannot change; that every call ends is part of every proof of a function.
 -- Assumes nothing.
-use mathlib.Core.Path.{_≡_, sym, _∙_}
+use mathlib.Core.Path.{_≡_}
 use mathlib.Core.Logic.{_↔_}
 use mathlib.Core.Bool.{Bool}
 use mathlib.Core.List.{List, [], _∷_, _++_, reverse}
@@ -20,8 +20,9 @@ use Rattle.searches.specs.Run.{offered, Run, BeginsRun}
 use Rattle.searches.specs.Violation.{Violates, FirstViolation}
 use Rattle.searches.specs.Violation.{passes, fails, refused, Fails, judge}
 use Rattle.searches.specs.CarryOn.{carryOn, CarriedOn}
-use Rattle.searches.specs.Answer.{openTests, judgeTests, carryOnTests, Accepts, Refuses}
+use Rattle.searches.specs.Answer.{openTests, judgeTests, listTests, carryOnTests, Accepts, Refuses}
 use Rattle.searches.specs.Answer.{judgeAnswer, openAnswer, carryOnAnswer, carryOnOutput}
+use Rattle.searches.specs.Form.{judgeTestsOf, listTestsOf, carryOnTestsOf, judgeOf, carryOnOf, outputOf}
 use Rattle.searches.specs.declared.Mark.{Mark}
 use Rattle.searches.proofs.Ordering.{ordering-prefix, ordering-fits, length-grown}
 use Rattle.searches.proofs.Run.{Unreached, all-offered-first, restart-allowed, restart-only-then}
@@ -29,19 +30,19 @@ use Rattle.searches.proofs.Judge.{passes-unviolated, unviolated-passes}
 use Rattle.searches.proofs.CarryOn.{passes-greedy, carryOn-carries, carriedOn-unique, passes-comes-back, comes-back-passes}
 use Rattle.searches.proofs.Passing as passing
 use Rattle.searches.proofs.Refusals.{refuses-first, first-refuses}
-use Rattle.searches.proofs.Answers as answers
-use Rattle.searches.proofs.Parts as parts
+use Rattle.searches.proofs.FormDemands as form
 
 -- ---- Demand 1: the caller's memory
 
 -- each refusal in its stated case and no other: the answer is refusal r exactly when r's test holds and no earlier one does
 pub judge-refuses : (kind : ℕ) (mark : Mark) (rows w : List ℕ) (r : ℕ) → (judgeAnswer kind mark rows w ≡ refused r) ↔ Refuses r (judgeTests kind mark rows w)
-judge-refuses kind mark rows w r = (answers.refused-judge kind mark rows w r, answers.judge-refused kind mark rows w r)
+unfolding judgeAnswer judgeTests judgeOf judgeTestsOf
+judge-refuses kind mark rows = form.judge-refuses (openTests kind mark rows) (searchOf kind) (arcs rows) (length rows)
 
 pub carryOn-refuses : (kind : ℕ) (mark : Mark) (rows t out : List ℕ) (k r : ℕ)
     → (carryOnAnswer kind mark rows t out k ≡ some r) ↔ Refuses r (carryOnTests kind mark rows t out k)
-unfolding carryOnAnswer
-carryOn-refuses kind mark rows t out k r = (first-refuses (carryOnTests kind mark rows t out k) r, refuses-first (carryOnTests kind mark rows t out k) r)
+unfolding carryOnAnswer carryOnOf carryOnTests listTests carryOnTestsOf listTestsOf
+carryOn-refuses kind mark rows = form.carryOn-refuses (openTests kind mark rows) (searchOf kind) (arcs rows) (length rows)
 
 pub open-refuses : (kind : ℕ) (mark : Mark) (rows : List ℕ) (r : ℕ) → (openAnswer kind mark rows ≡ some r) ↔ Refuses r (openTests kind mark rows)
 unfolding openAnswer
@@ -49,13 +50,15 @@ open-refuses kind mark rows r = (first-refuses (openTests kind mark rows) r, ref
 
 -- and then nothing is altered
 pub refused-keeps : (kind : ℕ) (mark : Mark) (rows t out : List ℕ) (k r : ℕ) → Refuses r (carryOnTests kind mark rows t out k) → carryOnOutput kind mark rows t out k ≡ out
-refused-keeps = answers.carryOn-kept
+unfolding carryOnOutput outputOf carryOnTests listTests carryOnTestsOf listTestsOf
+refused-keeps kind mark rows = form.refused-keeps (openTests kind mark rows) (searchOf kind) (arcs rows) (length rows)
 
 -- the output list only where a successful call fills it: for every input its first k bytes, its bytes from n on and its length stay
 pub output-stays : (kind : ℕ) (mark : Mark) (rows t out : List ℕ) (k : ℕ)
     → (take k (carryOnOutput kind mark rows t out k) ≡ take k out) × (drop (length rows) (carryOnOutput kind mark rows t out k) ≡ drop (length rows) out)
     × (length (carryOnOutput kind mark rows t out k) ≡ length out)
-output-stays = parts.output-kept
+unfolding carryOnOutput outputOf carryOnTests listTests carryOnTestsOf listTestsOf
+output-stays kind mark rows = form.output-stays (openTests kind mark rows) (searchOf kind) (arcs rows) (length rows)
 
 -- ---- Demands 2 and 3 for any graph
 
@@ -141,30 +144,27 @@ module _ (s : Search) (arc : ℕ → ℕ → Bool) (n : ℕ) where
 -- judge's answer on a part of a walk is the verdict that the theorems on any graph speak of
 pub part-judged : (kind : ℕ) (mark : Mark) (rows w : List ℕ) (k : ℕ) → Accepts (openTests kind mark rows) → IsOrdering (length rows) w k
     → judgeAnswer kind mark rows (take k w) ≡ judge (searchOf kind) (arcs rows) (length rows) w k
-part-judged = answers.prefix-judged
+unfolding judgeAnswer judgeTests judgeOf judgeTestsOf
+part-judged kind mark rows = form.part-judged (openTests kind mark rows) (searchOf kind) (arcs rows) (length rows)
 
 module _ (kind : ℕ) (mark : Mark) (rows : List ℕ) (valid : Accepts (openTests kind mark rows)) where
   -- Demand 2: a full walk passes exactly when carrying on from nothing, with that walk reversed as preference list, gives it again
   pub written-again : (w out : List ℕ) → IsFullOrdering (length rows) w → length rows ≤ length out
       → (judgeAnswer kind mark rows w ≡ passes) ↔ (take (length rows) (carryOnOutput kind mark rows (reverse w) out 0) ≡ w)
-  written-again w out all room = (parts.passes-written-again kind mark rows valid w all out room, parts.written-again-passes kind mark rows valid w all out room)
+  unfolding judgeAnswer judgeTests judgeOf judgeTestsOf carryOnOutput outputOf carryOnTests listTests carryOnTestsOf listTestsOf
+  written-again = form.written-again (openTests kind mark rows) (searchOf kind) (arcs rows) (length rows) valid
 
   -- Demand 3: for every walk of distinct points and every cut m of it,
   module _ (w : List ℕ) (k : ℕ) (o : IsOrdering (length rows) w k) (m : ℕ) (cut : m ≤ k) where
-    answer : judgeAnswer kind mark rows (take m w) ≡ judge (searchOf kind) (arcs rows) (length rows) w m
-    answer = part-judged kind mark rows w m valid (ordering-prefix (length rows) m cut o)
-
     -- judge passes the part exactly when some run of the search begins with it,
     pub part-as-run : (judgeAnswer kind mark rows (take m w) ≡ passes) ↔ BeginsRun (searchOf kind) (arcs rows) (length rows) w m
-    part-as-run =
-        let i = passes-as-run (searchOf kind) (arcs rows) (length rows) w k o m cut in
-        (λ p. i .0 (sym answer ∙ p), λ b. answer ∙ i .1 b)
+    unfolding judgeAnswer judgeTests judgeOf judgeTestsOf
+    part-as-run = form.part-as-run (openTests kind mark rows) (searchOf kind) (arcs rows) (length rows) valid w k o m cut
 
     -- and exactly when with only that part placed no three points stand in the fault relation
     pub part-unfaulted : (judgeAnswer kind mark rows (take m w) ≡ passes) ↔ ((i j c : ℕ) → Violates (searchOf kind) (arcs rows) (length rows) w m i j c → ⊥)
-    part-unfaulted =
-        let i = passes-unfaulted (searchOf kind) (arcs rows) (length rows) w k o m cut in
-        (λ p. i .0 (sym answer ∙ p), λ none. answer ∙ i .1 none)
+    unfolding judgeAnswer judgeTests judgeOf judgeTestsOf
+    part-unfaulted = form.part-unfaulted (openTests kind mark rows) (searchOf kind) (arcs rows) (length rows) valid w k o m cut
 
     -- a passed part, at the front of any output list with room, is carried on, whatever the preference list, and the first n bytes then hold a
     -- walk of all points that begins with it, passes, and has at each added place the offered point that stands last in the list
@@ -172,22 +172,22 @@ module _ (kind : ℕ) (mark : Mark) (rows : List ℕ) (valid : Accepts (openTest
         → judgeAnswer kind mark rows (take m w) ≡ passes
         → (carryOnAnswer kind mark rows t out m ≡ none)
         × CarriedOn (searchOf kind) (arcs rows) (length rows) t w m (take (length rows) (carryOnOutput kind mark rows t out m))
-    part-carried-on t out names room front p =
-        parts.part-carried kind mark rows valid w m (ordering-prefix (length rows) m cut o) t out names room front (sym answer ∙ p)
+    unfolding judgeAnswer judgeTests judgeOf judgeTestsOf carryOnAnswer carryOnOutput carryOnOf outputOf carryOnTests listTests carryOnTestsOf listTestsOf
+    part-carried-on = form.part-carried-on (openTests kind mark rows) (searchOf kind) (arcs rows) (length rows) valid w k o m cut
 
     -- a failed one is shown its first fault triple, all others come after it
     pub part-shown-first : (a b c : ℕ) → judgeAnswer kind mark rows (take m w) ≡ fails a b c
         → FirstViolation (searchOf kind) (arcs rows) (length rows) w m a b c
-    part-shown-first a b c e = shown-first (searchOf kind) (arcs rows) (length rows) w k o m cut a b c (sym answer ∙ e)
+    unfolding judgeAnswer judgeTests judgeOf judgeTestsOf
+    part-shown-first = form.part-shown-first (openTests kind mark rows) (searchOf kind) (arcs rows) (length rows) valid w k o m cut
 
   module _ (w : List ℕ) (k : ℕ) (o : IsOrdering (length rows) w k) (a b c : ℕ) (f : FirstViolation (searchOf kind) (arcs rows) (length rows) w k a b c) where
     -- cut just before its middle point it passes,
     pub part-passes-before : judgeAnswer kind mark rows (take (f .j) w) ≡ passes
-    part-passes-before =
-        answer w k o (f .j) (omega (arith, f .is .middle)) ∙ passes-before (searchOf kind) (arcs rows) (length rows) w k o k (omega arith) f
+    unfolding judgeAnswer judgeTests judgeOf judgeTestsOf
+    part-passes-before = form.part-passes-before (openTests kind mark rows) (searchOf kind) (arcs rows) (length rows) valid w k o a b c f
 
     -- cut anywhere further on it fails
     pub part-fails-after : (l : ℕ) → f .j < l → l ≤ k → Fails (judgeAnswer kind mark rows (take l w))
-    part-fails-after l h i =
-        let x = fails-after (searchOf kind) (arcs rows) (length rows) w k o k (omega arith) f l h i in
-        (x .0, x .1, x .2, answer w k o l i ∙ x .3)
+    unfolding judgeAnswer judgeTests judgeOf judgeTestsOf
+    part-fails-after = form.part-fails-after (openTests kind mark rows) (searchOf kind) (arcs rows) (length rows) valid w k o a b c f

@@ -3,6 +3,7 @@
 --   alike-behind, alike-unranked     whoever is ahead of one of two equal labels is ahead of the other, and none of the two is ahead
 --   Unranked s k c b                 none of the two labels is ahead
 --   level-exactly                    except in MNS two labels are level exactly when none is ahead; search by search
+--   not-mns                          a search with another number is not MNS
 --   except-mns                       what holds in MNS, and in every other search, holds in every search
 --   level-unranked, unranked-level   of two that are level none is ahead; except in MNS, two of which none is ahead are level
 --   alike-level, empty-level         equal labels are level, and so are two empty ones
@@ -158,22 +159,22 @@ level-exactly lexDfs other k c b = connected-level lexDfs k c b (settled-connect
 level-exactly mns other k c b = absurd (other refl)
 level-exactly mcs other k c b = equal-level later (high-end .compare) below-itself (countBelow k c) (countBelow k b)
 
+pub not-mns : {s : Search} → (T (eqb (kindOf s) (kindOf mns)) → ⊥) → s ≢ mns
+not-mns apart e = apart (subst (λ (x : Search). T (eqb (kindOf x) (kindOf mns))) (sym e) (eqb-refl (kindOf mns)))
+
 -- what holds in MNS and in every other search holds in every search
 pub except-mns : (P : Search → Type 0) → P mns → ((s : Search) → s ≢ mns → P s) → (s : Search) → P s
 unfolding kindOf
 except-mns P at-mns elsewhere s = go s
   where
-    other : {x : Search} → (T (eqb (kindOf x) (kindOf mns)) → ⊥) → x ≢ mns
-    other {x} apart e = apart (subst (λ (y : Search). T (eqb (kindOf y) (kindOf mns))) (sym e) (eqb-refl (kindOf mns)))
-
     go : (x : Search) → P x
-    go generic = elsewhere generic (other (λ t. t))
-    go bfs = elsewhere bfs (other (λ t. t))
-    go dfs = elsewhere dfs (other (λ t. t))
-    go lexBfs = elsewhere lexBfs (other (λ t. t))
-    go lexDfs = elsewhere lexDfs (other (λ t. t))
+    go generic = elsewhere generic (not-mns (λ t. t))
+    go bfs = elsewhere bfs (not-mns (λ t. t))
+    go dfs = elsewhere dfs (not-mns (λ t. t))
+    go lexBfs = elsewhere lexBfs (not-mns (λ t. t))
+    go lexDfs = elsewhere lexDfs (not-mns (λ t. t))
     go mns = at-mns
-    go mcs = elsewhere mcs (other (λ t. t))
+    go mcs = elsewhere mcs (not-mns (λ t. t))
 
 pub unranked-level : (s : Search) → s ≢ mns → (k : ℕ) (c b : ℕ → Bool) → Unranked s k c b → T (level s k c b)
 unranked-level s other k c b = level-exactly s other k c b .1

@@ -12,10 +12,10 @@ use mathlib.Core.Logic.{⊎-elim, _↔_}
 use mathlib.Core.Bool.{Bool, true, false, not, _&&_}
 use mathlib.Core.List.{List, [], _∷_}
 use mathlib.Core.Option.{some}
-use Prim.Native.Nat.{ℕ, _≤_, _<_}
-use lib.Dec.{T, eqb, eqb-refl, not-T, T-not}
+use Prim.Native.Nat.{ℕ, _≤_}
+use lib.Dec.{T, eqb, eqb-refl, T-not}
 use lib.ListN.{length, take}
-use Rattle.bitset.proofs.Tests.{and-in, and-out, not-not, same-test, is-false}
+use Rattle.bitset.proofs.Tests.{and-in, and-out, is-false}
 use Rattle.searches.specs.Kind.{searchOf}
 use Rattle.searches.specs.Ordering.{arcs, IsOrdering}
 use Rattle.searches.specs.Run.{BeginsRun}
@@ -24,7 +24,7 @@ use Rattle.searches.specs.Answer.{oneWay, isTwoWay, BothWays, openTests,
 use Rattle.searches.specs.Answer.{judgeAnswer, openAnswer, carryOnAnswer, carryOnOutput}
 use Rattle.searches.specs.Answer.{openTestsBarring, judgeTestsBarring, listTestsBarring, carryOnTestsBarring, openBarring, judgeBarring, carryOnBarring, outputBarring}
 use Rattle.searches.specs.declared.Mark.{Mark}
-use Rattle.searches.proofs.Refusals.{oneWay-in, oneWay-out}
+use Rattle.searches.proofs.Refusals.{oneWay-out, all-returned}
 use Rattle.searches.proofs.DemandsBarring as barring
 use Rattle.searches.proofs.Demands.{judge-refuses, open-refuses, carryOn-refuses, part-as-run, part-unfaulted}
 
@@ -91,13 +91,9 @@ both-ways-none rows both =
 
 -- in a two-way graph that is not refused with 5 every link goes both ways
 pub valid-both-ways : (kind : ℕ) (mark : Mark) (rows : List ℕ) → Accepts (openTests kind mark rows) → T (isTwoWay mark) → BothWays rows
-unfolding openTests
-valid-both-ways kind mark rows valid two-way u v l h = same-test (arcs rows u v) (arcs rows v u) (back u v l h) (back v u h l)
-  where
-    back : (u v : ℕ) → u < length rows → v < length rows → T (arcs rows u v) → T (arcs rows v u)
-    back u v l h t =
-        not-not (arcs rows v u) (not-T (not (arcs rows v u)) (λ none.
-        valid .1 .1 .1 .1 .0 (and-in (isTwoWay mark) (oneWay rows) two-way (oneWay-in rows u v l h t (T-not (arcs rows v u) none)))))
+unfolding openTests oneWay
+valid-both-ways kind mark rows valid two-way =
+    all-returned (arcs rows) (length rows) (λ alone. valid .1 .1 .1 .1 .0 (and-in (isTwoWay mark) (oneWay rows) two-way alone))
 
 -- 02: K4, such a plan is refused or not, judged and carried on alike under either mark
 module _ (kind : ℕ) (mark mark′ : Mark) (rows : List ℕ) (both : BothWays rows) where

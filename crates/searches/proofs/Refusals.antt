@@ -1,5 +1,6 @@
 -- Refusals: each is given exactly in its stated case.
 --   refuses-first, first-refuses, accepts-none, none-accepts   the answer is the first test that holds
+--   outside-*, loop-*, unreturned-*, all-returned              what the tests on a graph mean, in whatever form it is given
 --   bitOutside-*, selfLoop-*, oneWay-*, vertexOutside-*, repeated-*   what the tests mean
 --   numbers tests                                              the numbers of the tests, in the order in which they are tried
 --   judge-order, carryOn-order, open-order                     what these are
@@ -14,7 +15,7 @@ use native.Mathlib.Omega.{arith}
 use lib.Dec.{T, leb, eqb, leb→le, le→leb, eqb→eq, eqb-refl, not-T, T-not}
 use lib.ListN.{length}
 use Rattle.bitset.specs.Below.{anyBelow}
-use Rattle.bitset.proofs.Tests.{and-in, and-out, decided}
+use Rattle.bitset.proofs.Tests.{and-in, and-out, not-not, same-test, decided}
 use Rattle.bitset.proofs.Below.{any-out, any-at}
 use Rattle.searches.specs.Ordering.{arcs, at}
 use Rattle.searches.specs.Answer.{bitOutside, selfLoop, oneWay, vertexOutside, repeated}
@@ -91,42 +92,71 @@ carryOn-order kind mark rows t out k = refl
 
 -- ---- what the tests mean
 
+-- the tests on a graph, in whatever form it is given: `bits` are as many as a row has
+module _ (arc : ℕ → ℕ → Bool) (n bits : ℕ) where
+  pub outside-out : T (anyBelow n (λ u. anyBelow bits (λ v. leb n v && arc u v))) → (u : ℕ) × (v : ℕ) × (u < n) × (v < bits) × (n ≤ v) × T (arc u v)
+  outside-out t =
+      let x = any-out n (λ u. anyBelow bits (λ v. leb n v && arc u v)) t in
+      let y = any-out bits (λ v. leb n v && arc (x .at) v) (x .holds) in
+      let both = and-out (leb n (y .at)) (arc (x .at) (y .at)) (y .holds) in
+      (x .at, y .at, x .below, y .below, leb→le n (y .at) (both .0), both .1)
+
+  pub outside-in : (u v : ℕ) → u < n → v < bits → n ≤ v → T (arc u v) → T (anyBelow n (λ u. anyBelow bits (λ v. leb n v && arc u v)))
+  outside-in u v l h g t =
+      any-at n (λ u. anyBelow bits (λ v. leb n v && arc u v)) u l
+      (any-at bits (λ v. leb n v && arc u v) v h (and-in (leb n v) (arc u v) (le→leb n v g) t))
+
+module _ (arc : ℕ → ℕ → Bool) (n : ℕ) where
+  pub loop-out : T (anyBelow n (λ u. arc u u)) → (u : ℕ) × (u < n) × T (arc u u)
+  loop-out t = let x = any-out n (λ u. arc u u) t in (x .at, x .below, x .holds)
+
+  pub loop-in : (u : ℕ) → u < n → T (arc u u) → T (anyBelow n (λ u. arc u u))
+  loop-in u l t = any-at n (λ u. arc u u) u l t
+
+  pub unreturned-out : T (anyBelow n (λ u. anyBelow n (λ v. arc u v && not (arc v u)))) → (u : ℕ) × (v : ℕ) × (u < n) × (v < n) × T (arc u v) × (T (arc v u) → ⊥)
+  unreturned-out t =
+      let x = any-out n (λ u. anyBelow n (λ v. arc u v && not (arc v u))) t in
+      let y = any-out n (λ v. arc (x .at) v && not (arc v (x .at))) (x .holds) in
+      let both = and-out (arc (x .at) (y .at)) (not (arc (y .at) (x .at))) (y .holds) in
+      (x .at, y .at, x .below, y .below, both .0, T-not (arc (y .at) (x .at)) (both .1))
+
+  pub unreturned-in : (u v : ℕ) → u < n → v < n → T (arc u v) → (T (arc v u) → ⊥) → T (anyBelow n (λ u. anyBelow n (λ v. arc u v && not (arc v u))))
+  unreturned-in u v l h t out =
+      any-at n (λ u. anyBelow n (λ v. arc u v && not (arc v u))) u l
+      (any-at n (λ v. arc u v && not (arc v u)) v h (and-in (arc u v) (not (arc v u)) t (not-T (arc v u) out)))
+
+  -- where the test does not hold every arc has its arc back
+  pub all-returned : (T (anyBelow n (λ u. anyBelow n (λ v. arc u v && not (arc v u)))) → ⊥) → (u v : ℕ) → u < n → v < n → arc u v ≡ arc v u
+  all-returned all u v l h = same-test (arc u v) (arc v u) (back u v l h) (back v u h l)
+    where
+      back : (u v : ℕ) → u < n → v < n → T (arc u v) → T (arc v u)
+      back u v l h t = not-not (arc v u) (not-T (not (arc v u)) (λ alone. all (unreturned-in u v l h t (T-not (arc v u) alone))))
+
+-- on rows
 module _ (rows : List ℕ) where
   pub bitOutside-out : T (bitOutside rows) → (u : ℕ) × (v : ℕ) × (u < length rows) × (v < 64) × (length rows ≤ v) × T (arcs rows u v)
   unfolding bitOutside
-  bitOutside-out t =
-      let x = any-out (length rows) (λ u. anyBelow 64 (λ v. leb (length rows) v && arcs rows u v)) t in
-      let y = any-out 64 (λ v. leb (length rows) v && arcs rows (x .at) v) (x .holds) in
-      let both = and-out (leb (length rows) (y .at)) (arcs rows (x .at) (y .at)) (y .holds) in
-      (x .at, y .at, x .below, y .below, leb→le (length rows) (y .at) (both .0), both .1)
+  bitOutside-out = outside-out (arcs rows) (length rows) 64
 
   pub bitOutside-in : (u v : ℕ) → u < length rows → v < 64 → length rows ≤ v → T (arcs rows u v) → T (bitOutside rows)
   unfolding bitOutside
-  bitOutside-in u v l h g t =
-      any-at (length rows) (λ u. anyBelow 64 (λ v. leb (length rows) v && arcs rows u v)) u l
-      (any-at 64 (λ v. leb (length rows) v && arcs rows u v) v h (and-in (leb (length rows) v) (arcs rows u v) (le→leb (length rows) v g) t))
+  bitOutside-in = outside-in (arcs rows) (length rows) 64
 
   pub selfLoop-out : T (selfLoop rows) → (u : ℕ) × (u < length rows) × T (arcs rows u u)
   unfolding selfLoop
-  selfLoop-out t = let x = any-out (length rows) (λ u. arcs rows u u) t in (x .at, x .below, x .holds)
+  selfLoop-out = loop-out (arcs rows) (length rows)
 
   pub selfLoop-in : (u : ℕ) → u < length rows → T (arcs rows u u) → T (selfLoop rows)
   unfolding selfLoop
-  selfLoop-in u l t = any-at (length rows) (λ u. arcs rows u u) u l t
+  selfLoop-in = loop-in (arcs rows) (length rows)
 
   pub oneWay-out : T (oneWay rows) → (u : ℕ) × (v : ℕ) × (u < length rows) × (v < length rows) × T (arcs rows u v) × (T (arcs rows v u) → ⊥)
   unfolding oneWay
-  oneWay-out t =
-      let x = any-out (length rows) (λ u. anyBelow (length rows) (λ v. arcs rows u v && not (arcs rows v u))) t in
-      let y = any-out (length rows) (λ v. arcs rows (x .at) v && not (arcs rows v (x .at))) (x .holds) in
-      let both = and-out (arcs rows (x .at) (y .at)) (not (arcs rows (y .at) (x .at))) (y .holds) in
-      (x .at, y .at, x .below, y .below, both .0, T-not (arcs rows (y .at) (x .at)) (both .1))
+  oneWay-out = unreturned-out (arcs rows) (length rows)
 
   pub oneWay-in : (u v : ℕ) → u < length rows → v < length rows → T (arcs rows u v) → (T (arcs rows v u) → ⊥) → T (oneWay rows)
   unfolding oneWay
-  oneWay-in u v l h t out =
-      any-at (length rows) (λ u. anyBelow (length rows) (λ v. arcs rows u v && not (arcs rows v u))) u l
-      (any-at (length rows) (λ v. arcs rows u v && not (arcs rows v u)) v h (and-in (arcs rows u v) (not (arcs rows v u)) t (not-T (arcs rows v u) out)))
+  oneWay-in = unreturned-in (arcs rows) (length rows)
 
 module _ (w : List ℕ) (k : ℕ) where
   pub vertexOutside-out : (n : ℕ) → T (vertexOutside n w k) → (p : ℕ) × (p < k) × (n ≤ at w p)

@@ -1,5 +1,6 @@
 pub mod Kind
 pub mod Ordering
+pub mod Table
 pub mod Label
 pub mod Running
 pub mod Comparison
@@ -8,4 +9,6 @@ pub mod Violation
 pub mod CarryOn
 pub mod Without
 pub mod Answer
+pub mod Form
+pub mod Wide
 pub mod CarryOver

@@ -4,6 +4,9 @@
 // A vertex of a graph (01: point).
 pub struct Vertex(pub u8);
 
+// A vertex of a graph in the wide form, of up to 512 vertices (02, K12: a point's number takes 16 bits).
+pub struct WideVertex(pub u16);
+
 // A position in an ordering, counted from 0 (01: place). Only a look-up in the ordering turns a position
 // into the vertex that stands there.
 pub struct Position(pub usize);
@@ -40,6 +43,13 @@ pub struct Violation {
     pub a: Vertex,
     pub b: Vertex,
     pub c: Vertex,
+}
+
+// The same in the wide form.
+pub struct WideViolation {
+    pub a: WideVertex,
+    pub b: WideVertex,
+    pub c: WideVertex,
 }
 
 // How one of two unplaced vertices stands to the other, by their labels (02: K6).
@@ -110,6 +120,13 @@ pub enum Refusal {
 pub enum Judgement {
     Passes,
     Fails(Violation),
+    Refused(Refusal),
+}
+
+// What judging an ordering answers in the wide form.
+pub enum WideJudgement {
+    Passes,
+    Fails(WideViolation),
     Refused(Refusal),
 }
 

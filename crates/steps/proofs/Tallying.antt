@@ -30,7 +30,7 @@ use Rattle.steps.proofs.Representation.{cut-below, free-vertex, free-ea
 -- ---- one number more
 
 -- the number joins where b says so
-count-joined : (n a : ℕ) (f : ℕ → Bool) → a < n → (T (f a) → ⊥) → (b : Bool)
+pub count-joined : (n a : ℕ) (f : ℕ → Bool) → a < n → (T (f a) → ⊥) → (b : Bool)
     → countBelow n (λ p. (eqb a p && b) || f p) ≡ cond b (suc (countBelow n f)) (countBelow n f)
 count-joined n a f l out true =
     count-same n (λ p. (eqb a p && true) || f p) (λ p. eqb a p || f p) (λ p _. ap (λ (x : Bool). x || f p) (sym (and-true (eqb a p)))) ∙ count-added n f a l out
