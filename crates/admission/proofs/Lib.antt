@@ -1,0 +1,3 @@
+pub mod Outside
+pub mod Seen
+pub mod Tried
