@@ -5,6 +5,7 @@
 //! left out of the unplaced ones; no smaller plan is built.
 
 mod search;
+pub mod wide;
 
 use crate::definition::{Kind, BFS, DFS, LEX_BFS, LEX_DFS, MCS};
 use search::Search;

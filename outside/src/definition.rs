@@ -1,6 +1,6 @@
 //! The definitions of 01, and of MCS, the charge, one-way plans, the way back, the comparison, points out of service,
-//! plans without chordless rings, neighbour lists and judgements in words from 02, computed as they read, by trying
-//! everything.
+//! plans without chordless rings, neighbour lists, judgements in words and plans of 512 points from 02, computed as they
+//! read, by trying everything.
 //!
 //!   Mark                        whether the links of a plan have a direction       [02: K4]
 //!   Graph                       a plan: one row of 64 bits for each point          [01: plan]
@@ -21,6 +21,7 @@
 //!   chordal                     plans without chordless rings                      [02: K9]
 //!   neighbour_lists             plans as neighbour lists: converted and judged     [02: K10]
 //!   wording                     the judgement in words                             [02: K11]
+//!   wide                        judge and carry-on on plans of up to 512 points    [02: K12]
 
 /// A point's number.
 pub type Vertex = usize;
@@ -293,6 +294,7 @@ pub mod sheet;
 pub mod stance;
 mod violation;
 pub mod way_back;
+pub mod wide;
 pub mod without;
 pub mod wording;
 

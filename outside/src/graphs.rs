@@ -1,5 +1,7 @@
 //! Plans to try, as the bytes that the calls take.
 
+pub mod wide;
+
 use crate::definition::{Graph, Mark};
 use crate::random::Random;
 

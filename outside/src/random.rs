@@ -42,7 +42,12 @@ impl Random {
 
     /// The numbers 0 to n - 1 in a random order.
     pub fn permutation(&mut self, n: usize) -> Vec<u8> {
-        let mut list: Vec<u8> = (0..n).map(|v| v as u8).collect();
+        self.wide_permutation(n).into_iter().map(|v| v as u8).collect()
+    }
+
+    /// The same as 16-bit numbers.
+    pub fn wide_permutation(&mut self, n: usize) -> Vec<u16> {
+        let mut list: Vec<u16> = (0..n).map(|v| v as u16).collect();
         for i in (1..n).rev() {
             list.swap(i, self.below(i + 1));
         }

@@ -43,7 +43,12 @@ impl fmt::Display for Row {
 
 /// The title and the head; each of the two timings has a name.
 pub fn head(title: &str, timings: [&str; 2]) -> String {
-    let [first, second] = timings.map(|name| format!(" {name} ns | bit sets ns | ratio |"));
+    head_beside(title, timings, "bit sets")
+}
+
+/// The same where another implementation stands in the place of the one on bit sets.
+pub fn head_beside(title: &str, timings: [&str; 2], other: &str) -> String {
+    let [first, second] = timings.map(|name| format!(" {name} ns | {other} ns | ratio |"));
     format!("### {title}\n\n| kind | n | graph |{first}{second}\n|---|--:|---|{}", "--:|".repeat(6))
 }
 

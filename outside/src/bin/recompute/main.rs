@@ -16,6 +16,7 @@
 //!   n   the plans that a program of the library finds to have a chordless ring or none
 //!   o   the plans that a program of the library converts to neighbour lists and back, and the walks that it judges there
 //!   p   the walks that a program of the library judges in words
+//!   q   the walks on plans of up to 512 points that a program of the library judges and carries on
 
 mod barred;
 mod barred_walks;
@@ -36,6 +37,7 @@ mod sentences;
 mod sheets;
 mod small_plans;
 mod ways_back;
+mod wide_plans;
 
 fn main() {
     let calls = examples::compare()
@@ -54,6 +56,7 @@ fn main() {
         + barred_walks::compare()
         + chordal_plans::compare()
         + neighbour_lists::compare()
-        + sentences::compare();
+        + sentences::compare()
+        + wide_plans::compare();
     println!("all {calls} calls agree");
 }

@@ -4,7 +4,7 @@ use outside::definition::{Graph, Kind, KINDS, KIND_NAMES};
 use outside::random::Random;
 use outside::{graphs, orderings};
 
-const SIZES: [usize; 4] = [8, 16, 32, 64];
+pub const SIZES: [usize; 4] = [8, 16, 32, 64];
 
 /// How many inputs take turns: with one input only, the processor learns its branches.
 pub const ROTATING: usize = 64;
@@ -31,11 +31,11 @@ pub struct Case {
     pub density: Density,
 }
 
-/// The cases of a table, in its order.
-pub fn cases() -> Vec<Case> {
+/// The cases of a table for plans of these sizes, in its order.
+pub fn cases(sizes: &[usize]) -> Vec<Case> {
     let mut cases = Vec::new();
     for kind in KINDS {
-        for n in SIZES {
+        for &n in sizes {
             for density in [Density::Sparse, Density::Dense] {
                 cases.push(Case { kind, n, density });
             }

@@ -8,13 +8,15 @@
 //!   late     walks that fail at the second last point
 //!   race     the timing
 //!   report   the tables
+//!   wide     the wide form, beside the narrow one and beside bit sets of eight words
 
 mod inputs;
 mod late;
 mod race;
 mod report;
+mod wide;
 
-use inputs::{cases, passing, Input, ROTATING};
+use inputs::{cases, passing, Input, ROTATING, SIZES};
 use late::failing_late;
 use outside::definition::FAILED;
 use outside::random::Random;
@@ -27,6 +29,9 @@ fn main() {
     time_passing("One input", 1, 20_230_918);
     time_passing(tables::ROTATING, ROTATING, 20_230_919);
     time_failing_late("Judge on walks that fail late", 20_230_920);
+    wide::time_beside_narrow("The wide form beside the narrow one", 20_230_921);
+    wide::time_passing("The wide form, walks that pass", 20_230_922);
+    wide::time_failing_late("The wide form, judge on walks that fail late", 20_230_923);
     println!("\\* Random graphs had no such walk: links of the second last vertex were removed.");
 }
 
@@ -34,7 +39,7 @@ fn main() {
 fn time_passing(title: &str, count: usize, seed: u64) {
     let mut random = Random::new(seed);
     let mut report = Report::begin(title, ["judge", "carry-on"]);
-    for case in cases() {
+    for case in cases(&SIZES) {
         let inputs: Vec<Input> = (0..count).map(|_| passing(&mut random, &case)).collect();
         check(&inputs, |answer| answer == 0);
         report.row(&case, "", [times(judge_all, &inputs), times(carry_on_all, &inputs)]);
@@ -46,7 +51,7 @@ fn time_passing(title: &str, count: usize, seed: u64) {
 fn time_failing_late(title: &str, seed: u64) {
     let mut random = Random::new(seed);
     let mut report = Report::begin(title, ["one walk", "64 walks"]);
-    for case in cases() {
+    for case in cases(&SIZES) {
         let (inputs, altered): (Vec<Input>, Vec<bool>) =
             (0..ROTATING).map(|_| failing_late(&mut random, &case)).unzip();
         check(&inputs, |answer| answer >= FAILED);

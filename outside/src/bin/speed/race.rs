@@ -75,31 +75,37 @@ pub fn race<const N: usize>(
     pass: Pass,
     inputs: &[Input],
 ) -> [f64; N] {
-    let counts = implementations.each_ref().map(|by| repetitions(by, pass, inputs));
+    let passes = implementations.each_ref().map(|by| move || pass(black_box(by), inputs));
+    let taken = best_of_rounds(ROUNDS, passes.each_ref().map(|pass| pass as &dyn Fn()));
+    taken.map(|nanoseconds| nanoseconds / inputs.len() as f64)
+}
+
+/// Nanoseconds for each pass: the best of its rounds. The passes take turns.
+pub fn best_of_rounds<const N: usize>(rounds: usize, passes: [&dyn Fn(); N]) -> [f64; N] {
+    let counts = passes.map(repetitions);
     let mut best = [f64::MAX; N];
-    for _ in 0..ROUNDS {
+    for _ in 0..rounds {
         for i in 0..N {
-            let taken = time(&implementations[i], pass, inputs, counts[i]);
-            let calls = counts[i] as f64 * inputs.len() as f64;
-            best[i] = best[i].min(taken.as_nanos() as f64 / calls);
+            let taken = time(passes[i], counts[i]);
+            best[i] = best[i].min(taken.as_nanos() as f64 / counts[i] as f64);
         }
     }
     best
 }
 
 /// How many passes make a round.
-fn repetitions(by: &Implementation, pass: Pass, inputs: &[Input]) -> u32 {
+fn repetitions(pass: &dyn Fn()) -> u32 {
     let mut count = 1;
-    while time(by, pass, inputs, count) < ROUND_TIME {
+    while time(pass, count) < ROUND_TIME {
         count *= 2;
     }
     count
 }
 
-fn time(by: &Implementation, pass: Pass, inputs: &[Input], count: u32) -> Duration {
+fn time(pass: &dyn Fn(), count: u32) -> Duration {
     let start = Instant::now();
     for _ in 0..count {
-        pass(black_box(by), inputs);
+        pass();
     }
     start.elapsed()
 }

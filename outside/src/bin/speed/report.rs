@@ -1,6 +1,6 @@
 //! The tables, printed row by row.
 
-use outside::tables::{head, largest_ratios, Row, Times};
+use outside::tables::{head, head_beside, largest_ratios, Row, Times};
 
 use crate::inputs::Case;
 
@@ -14,6 +14,12 @@ impl Report {
     /// Prints the title and the table's head.
     pub fn begin(title: &str, timings: [&'static str; 2]) -> Report {
         println!("{}", head(title, timings));
+        Report { timings, rows: Vec::new() }
+    }
+
+    /// The same where another implementation stands in the place of the one on bit sets.
+    pub fn begin_beside(title: &str, timings: [&'static str; 2], other: &str) -> Report {
+        println!("{}", head_beside(title, timings, other));
         Report { timings, rows: Vec::new() }
     }
 
