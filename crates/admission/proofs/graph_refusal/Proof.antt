@@ -1,4 +1,4 @@
--- `wide::refusal::graph_refusal` meets its contract: each answer is given after the tests before it were tried, each on all rows.
+-- `admission::graph_refusal` meets its contract: each answer is given after the tests before it were tried, each on all rows.
 -- Assumes nothing.
 use mathlib.Core.List.{List}
 use mathlib.Core.Logic.{inl, inr, ⊎-elim}

@@ -1,4 +1,4 @@
--- `wide::tables::contains` meets its contract: the word of `v` in the row, and its bit there.
+-- `tables::contains` meets its contract: the word of `v` in the row, and its bit there.
 -- Assumes nothing.
 use mathlib.Core.Path.{sym, _∙_}
 use borrow.Author.Needs.{needs}

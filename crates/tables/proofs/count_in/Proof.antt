@@ -1,4 +1,4 @@
--- `wide::tables::count_in` meets its contract: the counts of the words in common.
+-- `tables::count_in` meets its contract: the counts of the words in common.
 -- Assumes nothing.
 use mathlib.Core.Path.{_≡_, refl, ap, _∙_}
 use mathlib.Core.Bool.{Bool, _&&_}

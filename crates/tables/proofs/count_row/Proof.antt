@@ -1,4 +1,4 @@
--- `wide::tables::count_row` meets its contract: the counts of its words.
+-- `tables::count_row` meets its contract: the counts of its words.
 -- Assumes nothing.
 use mathlib.Core.Path.{_≡_, refl, ap, _∙_}
 use Prim.Native.Nat.{ℕ, _+_, _*_, _-_, _≤_}

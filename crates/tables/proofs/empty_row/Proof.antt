@@ -1,4 +1,4 @@
--- `wide::tables::empty_row` meets its contract: the words of the row below the counter are empty.
+-- `tables::empty_row` meets its contract: the words of the row below the counter are empty.
 -- Assumes nothing.
 use Prim.Native.Nat.{_-_}
 use native.Mathlib.Omega.{arith}

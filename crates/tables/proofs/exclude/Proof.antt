@@ -1,4 +1,4 @@
--- `wide::tables::exclude` meets its contract: one word of the set is changed.
+-- `tables::exclude` meets its contract: one word of the set is changed.
 -- Assumes nothing.
 use borrow.Author.Needs.{needs}
 use Rattle.bitset.specs.Word.{removed}

@@ -1,4 +1,4 @@
--- `wide::tables::first_only` meets its contract: the first word of the one row without the other that is not empty has it.
+-- `tables::first_only` meets its contract: the first word of the one row without the other that is not empty has it.
 -- Assumes nothing.
 use mathlib.Core.Path.{ap, _∙_}
 use Prim.Native.Nat.{ℕ, _*_, _-_}

@@ -1,4 +1,4 @@
--- `wide::tables::in_set` meets its contract: the word of `v` in the set, and its bit there.
+-- `tables::in_set` meets its contract: the word of `v` in the set, and its bit there.
 -- Assumes nothing.
 use mathlib.Core.Path.{sym, _∙_}
 use borrow.Author.Needs.{needs}

@@ -1,4 +1,4 @@
--- `wide::tables::include` meets its contract: one word of the set is changed.
+-- `tables::include` meets its contract: one word of the set is changed.
 -- Assumes nothing.
 use borrow.Author.Needs.{needs}
 use Rattle.bitset.specs.Word.{inserted}

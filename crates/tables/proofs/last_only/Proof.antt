@@ -1,4 +1,4 @@
--- `wide::tables::last_only` meets its contract: the last word of the one row without the other that is not empty has it.
+-- `tables::last_only` meets its contract: the last word of the one row without the other that is not empty has it.
 -- Assumes nothing.
 use mathlib.Core.Path.{ap, _∙_}
 use Prim.Native.Nat.{ℕ, _+_, _*_, _-_, _≤_}

@@ -1,4 +1,4 @@
--- `wide::tables::past_largest` meets its contract: the zeros above the highest set bit are the numbers behind the last member.
+-- `tables::past_largest` meets its contract: the zeros above the highest set bit are the numbers behind the last member.
 -- Assumes nothing.
 use native.Mathlib.Omega.{arith}
 use lib.Count.{leading-le}

@@ -1,4 +1,4 @@
--- `wide::tables::put` meets its contract: one word of the label is changed.
+-- `tables::put` meets its contract: one word of the label is changed.
 -- Assumes nothing.
 use mathlib.Core.Path.{ap}
 use Prim.Native.Nat.{ℕ, _+_, _*_, _/_}

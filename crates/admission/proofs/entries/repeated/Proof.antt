@@ -1,4 +1,4 @@
--- `wide::entries::repeated` meets its contract: the set holds the entries that were passed, and none of them stood there twice.
+-- `admission::entries::repeated` meets its contract: the set holds the entries that were passed, and none of them stood there twice.
 -- Assumes nothing.
 use mathlib.Core.Path.{_≡_, sym, _∙_}
 use Prim.Native.Nat.{_-_, _<_}

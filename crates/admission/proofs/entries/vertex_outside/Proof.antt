@@ -1,4 +1,4 @@
--- `wide::entries::vertex_outside` meets its contract: no entry that was passed is n or more.
+-- `admission::entries::vertex_outside` meets its contract: no entry that was passed is n or more.
 -- Assumes nothing.
 use Prim.Native.Nat.{_-_}
 use native.Mathlib.Omega.{arith}

@@ -1,4 +1,4 @@
--- `wide::rows::bit_outside` meets its contract: no row that was passed has a bit at or above n.
+-- `admission::rows::bit_outside` meets its contract: no row that was passed has a bit at or above n.
 -- Assumes nothing.
 use mathlib.Core.Path.{sym, _∙_}
 use Prim.Native.Nat.{_-_}

@@ -1,4 +1,4 @@
--- `wide::rows::one_way` meets its contract: every arc of the rows that were passed has its arc back.
+-- `admission::rows::one_way` meets its contract: every arc of the rows that were passed has its arc back.
 -- Assumes nothing.
 use mathlib.Core.Path.{_≡_, sym, _∙_}
 use mathlib.Core.Bool.{false}

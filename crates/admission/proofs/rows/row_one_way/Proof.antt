@@ -1,4 +1,4 @@
--- `wide::rows::row_one_way` meets its contract: the vertices of the words that were passed have `u` in their rows.
+-- `admission::rows::row_one_way` meets its contract: the vertices of the words that were passed have `u` in their rows.
 -- Assumes nothing.
 use mathlib.Core.Path.{sym, _∙_}
 use Prim.Native.Nat.{_+_, _*_, _-_}

@@ -1,4 +1,4 @@
--- `wide::rows::row_outside` meets its contract: no word that was passed has a bit at or above n.
+-- `admission::rows::row_outside` meets its contract: no word that was passed has a bit at or above n.
 -- Assumes nothing.
 use mathlib.Core.Path.{_≡_, sym, _∙_}
 use mathlib.Core.Logic.{⊎-elim}

@@ -1,4 +1,4 @@
--- `wide::rows::self_loop` meets its contract: no vertex that was passed is in its own row.
+-- `admission::rows::self_loop` meets its contract: no vertex that was passed is in its own row.
 -- Assumes nothing.
 use mathlib.Core.Path.{sym, _∙_}
 use Prim.Native.Nat.{_-_}

@@ -1,4 +1,4 @@
--- `wide::rows::word_one_way` meets its contract: the vertices of the word that were taken out have `u` in their rows.
+-- `admission::rows::word_one_way` meets its contract: the vertices of the word that were taken out have `u` in their rows.
 -- Assumes nothing.
 use mathlib.Core.Path.{_≡_, sym, ap, _∙_, subst}
 use mathlib.Core.Bool.{not}
