@@ -1,5 +1,7 @@
 // A graph as adjacency lists that the caller owns: offsets and neighbours. The row of a vertex is put together when it is asked for; there is no
 // table of them. What is refused of such lists has files of its own. No function here alters a list.
+#![tactic(auto)]
+
 pub mod arcs;
 pub mod form;
 pub mod refusal;

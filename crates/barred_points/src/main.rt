@@ -11,6 +11,8 @@
 // An open walk is shown as the kind, the mark, how many points there are and how many are placed; after a bar the rows, after another the placed
 // points, after another the barred set. A row or a place that is not used comes behind the others if it is not 0, with its number and a colon before
 // it.
+#![tactic(auto)]
+
 mod calls;
 mod lines;
 mod made;

@@ -1,4 +1,6 @@
 // A 64-bit word as a set of the numbers 0 to 63.
+#![tactic(auto)]
+
 pub mod copy;
 pub mod transposition;
 

@@ -1,9 +1,11 @@
 // Sixtieths of a cent, rounded to the nearest cent, by one of two rules for halves of a cent.
+#![tactic(auto)]
+
 ghost use Rattle.std.specs.Prelude.{◌≡◌, ◌≤◌};
 ghost use Rattle.cents.specs.Cents.{cents_halves_up, cents_to_even, cents_by, largest_product};
 
 // The rule for halves of a cent.
-#[derive(Drop)]
+#[derive(Clone, Copy)]
 pub enum Halves {
     Up,
     ToEven,

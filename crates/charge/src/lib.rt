@@ -1,5 +1,7 @@
 // The charge for an ordering: its minutes at an hourly rate, to the nearest cent, by one of two rules for halves of a cent. On lists that the caller
 // owns, for every kind, plan, list and rate there can be. No function here alters a list.
+#![tactic(auto)]
+
 ghost use Rattle.std.specs.Prelude.{◌≡◌};
 ghost use Rattle.searches.specs.Answer.{first_refusal, refusal_of};
 ghost use Rattle.cents.specs.Cents.{cents_by};
@@ -9,7 +11,7 @@ use cents::Halves;
 use searches::{Judgement, Kind, Mark, Outcome, Refusal};
 
 // What charging for an ordering answers.
-#[derive(Drop)]
+#[derive(Clone, Copy)]
 pub enum Charged {
     Cents(u64),
     Refused(Refusal),

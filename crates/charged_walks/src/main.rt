@@ -4,6 +4,8 @@
 // charge there is; a plan without points.
 // A line for the two calls: the kind, the mark (0 two-way, 1 one-way), how many points, places and minutes there are, the rate, then of `charge` and
 // of `charge_halves_up` the answer (0, or a refusal's number) and the cents.
+#![tactic(auto)]
+
 mod lines;
 mod products;
 

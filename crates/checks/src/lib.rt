@@ -1,5 +1,7 @@
 // What is refused: tests on lists that the caller owns, in their order, each on every row or entry before the following one.
 // No function here alters a list.
+#![tactic(auto)]
+
 pub mod number;
 pub mod two_way;
 

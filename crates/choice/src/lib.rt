@@ -1,4 +1,6 @@
 // The choice by a tie-break: of the offered vertices, the one that stands last in it.
+#![tactic(auto)]
+
 ghost use Rattle.std.specs.Prelude.{◌≡◌, ℕ, ◌≤◌, ◌<◌, length, replicate};
 ghost use Rattle.bitset.specs.Below.{last_below};
 ghost use Rattle.bitset.specs.Word.{member};

@@ -1,5 +1,7 @@
 // Whether a two-way graph is chordal, with an elimination order or a chordless cycle to show for it. On lists that the caller owns, for every graph, mark and
 // output list there can be.
+#![tactic(auto)]
+
 mod cycle;
 mod gap;
 mod order;
@@ -14,7 +16,7 @@ ghost use Rattle.chordal.specs.Answer.{chordal_tests, refusal_in, Shown, answer_
 use searches::{Mark, Outcome, Refusal};
 
 // What asking whether a graph is chordal answers: that it is, that it is not, with the length of the cycle that was written, or why neither is told.
-#[derive(Drop)]
+#[derive(Clone, Copy)]
 pub enum Chordality {
     Chordal,
     Cycle(usize),

@@ -7,6 +7,8 @@
 // output list has, and the answer; after a third the bytes of the whole output list after the call. Before the call the byte at place p of the list, counted
 // from 0, is 100 + p.
 // An answer is y, or n and the length of the ring, or r and the number of a refusal.
+#![tactic(auto)]
+
 mod lines;
 mod shapes;
 mod small;

@@ -7,6 +7,8 @@
 // after another the placed points. A row or a place that is not used comes behind these if it is not 0, with its number and a colon before it.
 // The line of a number: the number, a colon, and how the point of this number stands to that of each number here, in the order of their lines: a for
 // ahead, b for behind, l for level, n for neither, or the number of a refusal.
+#![tactic(auto)]
+
 mod lines;
 
 ghost use Rattle.std.specs.Prelude.{◌≤◌};

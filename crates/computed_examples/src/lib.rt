@@ -1,1 +1,2 @@
 // Calls that the prover computes from the definitions (proofs/). There is no function here.
+#![tactic(auto)]

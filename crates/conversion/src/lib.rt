@@ -1,4 +1,6 @@
 // Conversions between the two layouts of a graph, rows and adjacency lists, on lists that the caller owns.
+#![tactic(auto)]
+
 mod lists;
 
 ghost use Rattle.std.specs.Prelude.{◌≡◌, ◌++◌, ◌≤◌, length, drop};

@@ -8,7 +8,7 @@ use edge_lines::{Cursor, Line, next_line};
 // What the lines so far come to. `headed` says that the p line was met, with `n` and `m`; before it both are 0. `edges` links followed, between points from 1 to
 // n, with their bits in `rows`; `looped` says that one links a point with itself. `sound` says that each line so far may stand where it stands, and that n is at
 // most 64.
-#[derive(Drop)]
+#[derive(Clone, Copy)]
 pub struct Drawing {
     pub headed: bool,
     pub sound: bool,

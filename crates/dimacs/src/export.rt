@@ -7,7 +7,7 @@ use plan_text::{Format, write_plan};
 use searches::{Mark, Outcome, Refusal};
 
 // What export answers: how many bytes the text has, or why there is none.
-#[derive(Drop)]
+#[derive(Clone, Copy)]
 pub enum Exported {
     Length(usize),
     Refused(Refusal),

@@ -8,7 +8,7 @@ use crate::draw::{Drawing, read_lines};
 use searches::{Outcome, Refusal};
 
 // What import answers: how many points the plan has, or why there is none.
-#[derive(Drop)]
+#[derive(Clone, Copy)]
 pub enum Imported {
     Points(usize),
     Refused(Refusal),

@@ -1,6 +1,12 @@
 // Reads a DIMACS edge file from standard input and prints the sheet of its plan, with an empty walk, or the number of the refusal. One byte more than 1 MiB is
 // read, so that a longer file is seen: it gets a line on standard error, and nothing else.
-use libc::{STDERR_FILENO, STDIN_FILENO, STDOUT_FILENO};
+#![tactic(auto)]
+
+const STDIN_FILENO: i32 = 0;
+
+const STDOUT_FILENO: i32 = 1;
+
+const STDERR_FILENO: i32 = 2;
 
 // Room for 1 MiB and one byte.
 fn buffer() -> [u8; 1048577] {

@@ -1,4 +1,6 @@
 // A drawing that comes as a DIMACS edge file, as a sheet.
+#![tactic(auto)]
+
 ghost use Rattle.std.specs.Prelude.{◌≡◌};
 ghost use Rattle.drawing.specs.Sheet.{sheet_in, sheet_length};
 

@@ -7,6 +7,8 @@
 // A line for each export: the letter x; after a bar each the mark (0 two-way, 1 one-way), the rows, how many bytes the output list has, the answer, and the bytes
 // of the whole output list after the call. Before the call the list holds the letters a to z, again and again. The answer is w and how many bytes were written, or
 // r and the number of a refusal.
+#![tactic(auto)]
+
 mod answers;
 mod calls;
 mod damaged;

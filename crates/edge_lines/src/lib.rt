@@ -1,4 +1,6 @@
 // The lines of a DIMACS edge file, each read from its bytes through a cursor.
+#![tactic(auto)]
+
 mod number;
 
 ghost use Rattle.std.specs.Prelude.{◌≡◌, ◌+◌, ◌≤◌, ◌<◌, length, drop};
@@ -10,13 +12,13 @@ use crate::number::{next, read_number};
 use fields::field::byte_at;
 
 // How far a list of bytes has been read.
-#[derive(Drop)]
+#[derive(Clone, Copy)]
 pub struct Cursor {
     pub at: usize,
 }
 
 // What a line says: nothing, as a comment; "p edge n m"; "e u v"; or it has none of these forms. A number from 10^19 on is given as 10^19.
-#[derive(Drop)]
+#[derive(Clone, Copy)]
 pub enum Line {
     Comment,
     Problem(u64, u64),
@@ -25,14 +27,14 @@ pub enum Line {
 }
 
 // What a line says, and where the next one begins.
-#[derive(Drop)]
+#[derive(Clone, Copy)]
 pub struct Step {
     pub line: Line,
     pub rest: Cursor,
 }
 
 // Two numbers, and whether they stand there in the form.
-#[derive(Drop)]
+#[derive(Clone, Copy)]
 struct Pair {
     sound: bool,
     first: u64,

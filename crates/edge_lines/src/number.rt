@@ -15,7 +15,7 @@ const MOST: u64 = 10000000000000000000;
 const TENTH: u64 = 1000000000000000000;
 
 // A number, whether it has digits and no leading zero, and where its digits end.
-#[derive(Drop)]
+#[derive(Clone, Copy)]
 pub struct Number {
     pub value: u64,
     pub sound: bool,

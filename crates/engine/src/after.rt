@@ -6,7 +6,7 @@ use searches::{Kind, Mark, Outcome};
 
 // Whether judge passes an ordering, and the unplaced vertices, the labels and their weights after it; where it does not pass, no vertex, empty labels
 // and no weight.
-#[derive(Drop)]
+#[derive(Clone, Copy)]
 pub struct Moment {
     pub passes: bool,
     pub free: u64,

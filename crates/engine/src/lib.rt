@@ -1,4 +1,6 @@
 // Judge and carry-on on lists that the caller owns, for every kind, plan, list and number there can be.
+#![tactic(auto)]
+
 pub mod after;
 
 ghost use Rattle.std.specs.Prelude.{◌≡◌, cond, ◌++◌, length, drop};

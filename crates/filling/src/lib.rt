@@ -1,4 +1,6 @@
 // The filling step of carry-on: the choice by the tie-break, again and again.
+#![tactic(auto)]
+
 ghost use Rattle.std.specs.Prelude.{◌≡◌, ◌++◌, drop};
 ghost use Rattle.bitset.specs.Below.{count_below};
 ghost use Rattle.bitset.specs.Word.{member};

@@ -1,5 +1,7 @@
 // Judge and carry-on for C: the graph comes as a plan, eight bytes a row, lowest first, and the answer is one number. The mark of the plan is in the
 // entry's name: two-way, or one_way.
+#![tactic(auto)]
+
 mod code;
 mod marked;
 mod plan;

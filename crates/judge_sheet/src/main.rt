@@ -1,6 +1,12 @@
 // Reads a sheet from standard input and prints its judgement; for a sheet that is refused with 11, the line in which it stops having the form,
 // as one field on standard error. One byte more than the longest sheet is read, so that a longer input is seen: what follows changes nothing.
-use libc::{STDERR_FILENO, STDIN_FILENO, STDOUT_FILENO};
+#![tactic(auto)]
+
+const STDIN_FILENO: i32 = 0;
+
+const STDOUT_FILENO: i32 = 1;
+
+const STDERR_FILENO: i32 = 2;
 
 fn main() {
     let mut input = [0u8; 18478];

@@ -1,4 +1,6 @@
 // The judgement of a sheet, written to a list that the caller owns.
+#![tactic(auto)]
+
 ghost use Rattle.std.specs.Prelude.{◌≡◌, ℕ, ◌+◌, ◌≤◌, ◌<◌, List, length, take};
 ghost use Rattle.std.proofs.lemmas.List.Edits.{sets};
 ghost use Rattle.searches.specs.Answer.{verdict_of};
@@ -50,7 +52,7 @@ fn judged_lines(output: &mut [u8], rows: &[u64], ordering: &[u8]) -> usize
 }
 
 // How long a judgement is; and where the sheet is refused with 11, the line in which it stops having the form, counted from 1, else 0.
-#[derive(Drop)]
+#[derive(Clone, Copy)]
 pub struct Judged {
     pub length: usize,
     pub line: usize,

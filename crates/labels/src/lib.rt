@@ -2,6 +2,8 @@
 // vertex's smallest position, 64 where it has none, and one more than its largest position, 0 where it has none; and the weight of its label, by which
 // it is compared in every search but MNS. Only what is kept of unplaced vertices is changed and asked for. What is compared of a vertex, the comparison
 // of two, and the step that a placed vertex makes.
+#![tactic(auto)]
+
 pub mod profile;
 pub mod weight;
 

@@ -5,7 +5,7 @@ ghost use Rattle.labels.specs.Words.{profile_at};
 use searches::Vertex;
 
 // What is compared of a vertex: its label, and the label's weight: except in MNS, the greater weight is ahead.
-#[derive(Drop)]
+#[derive(Clone, Copy)]
 pub struct Profile {
     pub label: u64,
     pub weight: u64,

@@ -1,4 +1,6 @@
 // The lines of a sheet, each parsed from where it begins. The reader knows where that is.
+#![tactic(auto)]
+
 ghost use Rattle.std.specs.Prelude.{◌≡◌, ◌<◌};
 ghost use Rattle.lines.specs.Line.{halted, head_read, link_read, place_read, end_read, next_line, Sound, LinkDue, PlaceDue};
 
@@ -6,7 +8,7 @@ use fields::field::{byte_at, field};
 
 // What the lines so far hold. `from` and `to` are the points of the last link, 0 and 0 before the first; `outside` says that a number among
 // the places is no point.
-#[derive(Drop)]
+#[derive(Clone, Copy)]
 pub struct Content {
     pub n: usize,
     pub m: usize,
@@ -20,7 +22,7 @@ pub struct Content {
 
 // What the lines so far come to. `good` of them have the form. `sound` says that none was malformed and that n and k are not too large; after
 // the end, that nothing follows. The last step took `width` bytes; `rest` steps follow line 1, the end among them.
-#[derive(Drop)]
+#[derive(Clone, Copy)]
 pub struct Parsed {
     pub good: usize,
     pub sound: bool,

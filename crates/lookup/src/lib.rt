@@ -1,5 +1,7 @@
 // Lists that the caller owns, read: what stands at a position of an ordering, which is the one way from a position to a vertex, and the row of a vertex.
 // Tests on rows and entries, and the columns of a graph, have files of their own. No function here alters a list that it reads.
+#![tactic(auto)]
+
 pub mod behind;
 pub mod columns;
 pub mod entries;

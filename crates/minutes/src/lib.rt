@@ -1,4 +1,6 @@
 // The minutes of an ordering.
+#![tactic(auto)]
+
 ghost use Rattle.std.specs.Prelude.{◌≡◌, ℕ, ◌≤◌, ◌<◌, length};
 ghost use Rattle.searches.specs.Ordering.{arcs, at};
 ghost use Rattle.minutes.specs.Minutes.{jump_minutes, minutes_of};

@@ -7,6 +7,8 @@
 // is d for done, or r and the number of a refusal.
 // A line for each walk: the letter j and the mark; after a bar each the offsets, the neighbours, the barred set and the walk; after another the answers for the
 // kinds 0 to 7 and 255. An answer is p for passes, f and the triple a, b, c for fails, or r and the number of a refusal.
+#![tactic(auto)]
+
 mod calls;
 mod lines;
 mod listed;

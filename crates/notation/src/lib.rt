@@ -1,5 +1,7 @@
 // What the programs that play calls share: printing numbers, rows, places, lists and comparisons, plans and walks of at most eight points written as one
 // number, 64 points in a row, and an output list before a call.
+#![tactic(auto)]
+
 use searches::{Comparison, Mark};
 
 // Prints one byte.

@@ -1,5 +1,7 @@
 // The offered vertices: those that no unplaced vertex is ahead of. Here each is found by comparing it with the others; `leaders` keeps the set of them
 // from one placing to the next.
+#![tactic(auto)]
+
 pub mod leaders;
 
 ghost use Rattle.std.specs.Prelude.{◌≡◌, ◌≤◌};

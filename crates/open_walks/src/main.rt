@@ -3,6 +3,8 @@
 // A line for each call: the kind, the call (a point to place, or 254 for taking back), its answer (0, or a refusal's number), what `offered`
 // then answers, its set, the mark of the open walk (0 two-way, 1 one-way), how many points there are and how many are placed, and the first five
 // places. The line of an open has the mark that was asked for in the place of the call.
+#![tactic(auto)]
+
 ghost use Rattle.std.specs.Prelude.{◌≤◌};
 
 use notation::{number, show, wide};

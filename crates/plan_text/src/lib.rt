@@ -1,4 +1,6 @@
 // A two-way graph written as text, its links one line each, ascending: as a DIMACS edge file, or as a sheet with an empty walk.
+#![tactic(auto)]
+
 mod decimal;
 mod line;
 
@@ -11,7 +13,7 @@ ghost use Rattle.sheet.specs.Written.{is_link, link_list};
 ghost use Rattle.plan_text.specs.Text.{plan_text, room};
 
 // The format of a text.
-#[derive(Drop)]
+#[derive(Clone, Copy)]
 pub enum Format {
     Edges,
     Sheet,

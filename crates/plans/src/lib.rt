@@ -1,4 +1,6 @@
 // Random plans, and random points and orders of the points of a set. The numbers are the same in every run.
+#![tactic(auto)]
+
 ghost use Rattle.std.specs.Prelude.{◌<◌, ◌≤◌};
 
 use searches::Mark;

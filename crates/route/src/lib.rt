@@ -1,5 +1,7 @@
 // The shortest way back: from a vertex of a BFS ordering over parents to a vertex that has none. On lists that the caller owns, for every graph,
 // ordering, vertex and output list there can be.
+#![tactic(auto)]
+
 ghost use Rattle.std.specs.Prelude.{◌≡◌, ◌++◌, ◌≤◌, ◌<◌, length, drop};
 ghost use Rattle.searches.specs.Ordering.{arcs};
 ghost use Rattle.searches.specs.Answer.{first_refusal, refusal_of};
@@ -10,7 +12,7 @@ use lookup::{row_of, vertex_at};
 use searches::{Judgement, Kind, Mark, Outcome, Position, Refusal, Vertex};
 
 // What asking for the way back answers: how many points were written, or why none were.
-#[derive(Drop)]
+#[derive(Clone, Copy)]
 pub enum WayBack {
     Points(usize),
     Refused(Refusal),

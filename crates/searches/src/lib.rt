@@ -1,21 +1,22 @@
 // The vocabulary of the project: vertices and positions, the kinds of search, the mark of a graph, and the answers.
 // The definitions that give these their meaning are in specs/, the theorems in proofs/.
+#![tactic(auto)]
 
 // A vertex of a graph (01: point).
-#[derive(Drop)]
+#[derive(Clone, Copy)]
 pub struct Vertex(pub u8);
 
 // A vertex of a graph in the wide form, of up to 512 vertices (02, K12: a point's number takes 16 bits).
-#[derive(Drop)]
+#[derive(Clone, Copy)]
 pub struct WideVertex(pub u16);
 
 // A position in an ordering, counted from 0 (01: place). Only a look-up in the ordering turns a position
 // into the vertex that stands there.
-#[derive(Drop)]
+#[derive(Clone, Copy)]
 pub struct Position(pub usize);
 
 // Which of the searches is meant (01: kind). Bytes without a constant here name none and are refused.
-#[derive(Drop)]
+#[derive(Clone, Copy)]
 pub struct Kind(pub u8);
 
 impl Kind {
@@ -36,7 +37,7 @@ impl Kind {
 
 // Whether the links of a graph have a direction (02: the mark of a plan). In a two-way graph every link is in both of its rows; in a one-way graph
 // bit v of row u says that u leads to v, and nothing about v to u.
-#[derive(Drop)]
+#[derive(Clone, Copy)]
 pub enum Mark {
     TwoWay,
     OneWay,
@@ -44,7 +45,7 @@ pub enum Mark {
 
 // Three vertices that show where an ordering leaves its search (01: fault triple a, b, c): `b` was placed
 // although the earlier `a` leads to `c`, and not to `b`, and the search's own condition holds.
-#[derive(Drop)]
+#[derive(Clone, Copy)]
 pub struct Violation {
     pub a: Vertex,
     pub b: Vertex,
@@ -52,7 +53,7 @@ pub struct Violation {
 }
 
 // The same in the wide form.
-#[derive(Drop)]
+#[derive(Clone, Copy)]
 pub struct WideViolation {
     pub a: WideVertex,
     pub b: WideVertex,
@@ -60,7 +61,7 @@ pub struct WideViolation {
 }
 
 // How one of two unplaced vertices stands to the other, by their labels (02: K6).
-#[derive(Drop)]
+#[derive(Clone, Copy)]
 pub enum Comparison {
     Ahead,
     Behind,
@@ -69,7 +70,7 @@ pub enum Comparison {
 }
 
 // Why a call is refused. The comment of each is its number in 01; from 18 on, in 02.
-#[derive(Drop)]
+#[derive(Clone, Copy)]
 pub enum Refusal {
     // 1
     UnknownKind,
@@ -128,7 +129,7 @@ pub enum Refusal {
 }
 
 // What judging an ordering answers.
-#[derive(Drop)]
+#[derive(Clone, Copy)]
 pub enum Judgement {
     Passes,
     Fails(Violation),
@@ -136,7 +137,7 @@ pub enum Judgement {
 }
 
 // What judging an ordering answers in the wide form.
-#[derive(Drop)]
+#[derive(Clone, Copy)]
 pub enum WideJudgement {
     Passes,
     Fails(WideViolation),
@@ -144,7 +145,7 @@ pub enum WideJudgement {
 }
 
 // What a call answers that hands its result over elsewhere, as carry-on does in the output list.
-#[derive(Drop)]
+#[derive(Clone, Copy)]
 pub enum Outcome {
     Done,
     Refused(Refusal),

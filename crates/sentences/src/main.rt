@@ -4,6 +4,8 @@
 // A line for each walk: the mark (0 two-way, 1 one-way); after a bar each the rows, the barred set, the walk, and how many bytes the output list has. Behind it a
 // line for each of the kinds 0 to 7 and 255: the kind; the answer, w and the length of the sentence, or r and the number of a refusal; after a bar the bytes of
 // the whole output list after the call. Before the call the list holds the letters a to z, again and again.
+#![tactic(auto)]
+
 mod four_points;
 mod lines;
 

@@ -11,7 +11,7 @@ use lines::{Content, Parsed};
 use searches::{Outcome, Refusal};
 
 // What a sheet holds: `n` rows, and the first `k` entries of an ordering; 0 behind both.
-#[derive(Drop)]
+#[derive(Clone, Copy)]
 pub struct Held {
     pub n: usize,
     pub rows: [u64; 64],
@@ -21,7 +21,7 @@ pub struct Held {
 
 // What a sheet holds, or why it is refused; then nothing is held. Where it is refused with 11, `line` is the one in which it stops having
 // the form, counted from 1; else it is 0.
-#[derive(Drop)]
+#[derive(Clone, Copy)]
 pub struct Reading {
     pub held: Held,
     pub outcome: Outcome,
@@ -29,7 +29,7 @@ pub struct Reading {
 }
 
 // A refusal or `Done`, and the line of an 11, else 0.
-#[derive(Drop)]
+#[derive(Clone, Copy)]
 struct Answer {
     outcome: Outcome,
     line: usize,

@@ -7,14 +7,14 @@ ghost use Rattle.lines.specs.Line.{Sound};
 
 use lines::{Parsed, next_line};
 
-#[derive(Drop)]
+#[derive(Clone, Copy)]
 pub struct Reader<'a> {
     pub sheet: &'a [u8],
     pub at: usize,
 }
 
 // A reader, and what the lines before it come to.
-#[derive(Drop)]
+#[derive(Clone, Copy)]
 pub struct Progress<'a> {
     pub reader: Reader<'a>,
     pub parsed: Parsed,

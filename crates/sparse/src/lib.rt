@@ -1,5 +1,7 @@
 // Judge on adjacency lists that the caller owns. The lists are read as they are: there are no rows but the one of the vertex at hand, a word that is put
 // together when it is asked for. The comparisons, the stages and the search for a violation are those of judge on rows.
+#![tactic(auto)]
+
 mod fault;
 mod refusal;
 mod replay;

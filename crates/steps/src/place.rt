@@ -9,7 +9,7 @@ use lookup::row_of;
 use searches::{Kind, Position, Vertex};
 
 // Which vertices are placed, which are unplaced, which the placed ones lead to, and which are offered (in MNS any).
-#[derive(Drop)]
+#[derive(Clone, Copy)]
 pub struct Stage {
     pub set: u64,
     pub free: u64,

@@ -9,7 +9,7 @@ use lookup::vertex_at;
 use searches::{Kind, Position};
 
 // How many vertices a replay placed, and the stage that it then reached.
-#[derive(Drop)]
+#[derive(Clone, Copy)]
 pub struct Replayed {
     pub count: usize,
     pub stage: Stage,

@@ -1,5 +1,7 @@
 // Tables of eight words a row: vertex v stands in word v div 64 at bit v mod 64. A graph is such a table, the labels of all vertices are another, with a
 // row of positions for each vertex, and a set of vertices is a single row.
+#![tactic(auto)]
+
 ghost use Rattle.std.specs.Prelude.{◌≡◌, ◌&&◌, ◌+◌, ◌*◌, ◌<◌, ◌≤◌, length};
 ghost use Rattle.bitset.specs.Below.{first_below, count_below, only, past_last};
 ghost use Rattle.bitset.specs.Word.{member};

@@ -1,5 +1,7 @@
 // The open walk: a graph with its mark and its barred vertices, a kind of search, and an ordering that grows and shrinks by one vertex. It is a state by value:
 // each call takes it, and hands it back with the answer. Its fields may hold anything; what is not well formed is refused, and handed back as it came.
+#![tactic(auto)]
+
 mod comparison;
 mod refusals;
 mod survey;
@@ -12,7 +14,7 @@ ghost use Rattle.traversal.specs.Compare.{compare_answer, report_of};
 use searches::{Comparison, Kind, Mark, Outcome, Refusal, Vertex};
 
 // An open walk: `n` rows of a graph, the set of its barred vertices, and the first `k` entries of an ordering.
-#[derive(Drop)]
+#[derive(Clone, Copy)]
 pub struct Traversal {
     pub kind: Kind,
     pub mark: Mark,
@@ -24,14 +26,14 @@ pub struct Traversal {
 }
 
 // An open walk, and whether it was opened, grown or shrunk.
-#[derive(Drop)]
+#[derive(Clone, Copy)]
 pub struct Stepped {
     pub traversal: Traversal,
     pub outcome: Outcome,
 }
 
 // An open walk, and the set of its offered vertices.
-#[derive(Drop)]
+#[derive(Clone, Copy)]
 pub struct Offering {
     pub traversal: Traversal,
     pub set: u64,
@@ -39,14 +41,14 @@ pub struct Offering {
 }
 
 // How the first of two vertices stands to the second, or why that is not told.
-#[derive(Drop)]
+#[derive(Clone, Copy)]
 pub enum Standing {
     Told(Comparison),
     Refused(Refusal),
 }
 
 // An open walk, and how the first of two of its unplaced vertices stands to the second.
-#[derive(Drop)]
+#[derive(Clone, Copy)]
 pub struct Compared {
     pub traversal: Traversal,
     pub standing: Standing,

@@ -1,5 +1,7 @@
 // The first violation at a vertex that was not offered. Its third vertex is looked for by position first, behind the middle one, and then
 // by number.
+#![tactic(auto)]
+
 ghost use Rattle.std.specs.Prelude.{◌≡◌, ◌<◌, T};
 ghost use Rattle.bitset.specs.Below.{any_below, first_below};
 ghost use Rattle.searches.specs.Kind.{search_of};

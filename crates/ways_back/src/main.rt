@@ -4,6 +4,8 @@
 // A line for each call: the mark (0 two-way, 1 one-way), how many points and places there are, the given point, how many bytes the output list has,
 // the answer (0, or a refusal's number), how many points were written, and the bytes of the whole output list after the call. Before the call the
 // byte at place p of the list, counted from 0, is 100 + p.
+#![tactic(auto)]
+
 mod largest;
 mod lines;
 

@@ -1,4 +1,6 @@
 // The wide form of judge and carry-on: graphs of up to 512 vertices, as tables of eight words a row, and lists of 16-bit numbers.
+#![tactic(auto)]
+
 mod choice;
 mod compare;
 mod fault;

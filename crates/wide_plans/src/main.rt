@@ -5,6 +5,8 @@
 // number of a refusal. For each walk carried on: c, the kind, k, the length of the output list; after a bar each the preference list, the start that stands at
 // the front of the output list, the answer, d for done or r and the number of a refusal, and the output list after the call. Before it, 1000 + p stands at each
 // place p behind the start.
+#![tactic(auto)]
+
 mod lines;
 mod made;
 

@@ -1,4 +1,6 @@
 // The calls of the wide form for the program that times them, which is written in Rust. No part of the library: the firmware's archive has none of this.
+#![tactic(auto)]
+
 mod code;
 
 use searches::{Kind, Mark};

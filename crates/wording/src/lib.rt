@@ -1,5 +1,7 @@
 // The judgement in words: a sentence that a customer can follow, written to a list that the caller owns. For every kind, graph, set of barred vertices,
 // ordering and output list there can be.
+#![tactic(auto)]
+
 mod refusal;
 mod table;
 pub mod write;
@@ -18,7 +20,7 @@ use crate::write::{put, put_clause};
 use searches::{Judgement, Kind, Mark, Outcome, Refusal, Violation};
 
 // What judging in words answers: how many bytes the sentence has, or why there is none.
-#[derive(Drop)]
+#[derive(Clone, Copy)]
 pub enum InWords {
     Length(usize),
     Refused(Refusal),

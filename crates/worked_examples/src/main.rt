@@ -1,6 +1,8 @@
 // The examples of 01 that are not proved but run. A line for each kind: the kind, then what judge answers on an empty plan, on 64 points in a
 // row walked from end to end, on 65 rows; what carry-on answers where all 64 are placed; and 1 if its output list is as it was.
 // An answer is 0 for a pass or a finished call, a refusal's number, or 99 for a failed walk.
+#![tactic(auto)]
+
 use notation::show;
 use searches::{Judgement, Kind, Mark, Outcome, Refusal};
 
