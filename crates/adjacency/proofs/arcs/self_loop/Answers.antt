@@ -1,0 +1,60 @@
+-- `adjacency::arcs::self_loop` meets its contract: no vertex that was passed stands in its own list.
+-- Assumes nothing.
+use Prim.Native.Nat.{ℕ, suc, ◌-◌, ◌<◌}
+use mathlib.Core.Path.{◌≡◌, sym, ap, ap₂, ◌∙◌}
+use native.Mathlib.Omega.{arith}
+use native.Mathlib.Numerals.{add-one}
+use Rattle.bitset.proofs.Passed.{passed_start, passed_more, any_found, any_unfound}
+use Rattle.searches.specs.Ordering.{at}
+use Rattle.adjacency.specs.Layout.{size_of, stands_in, arcs_listed, self_loop_in}
+use Rattle.adjacency.proofs.Layouts.{size_suc, offset_inside}
+use Rattle.adjacency.proofs.arcs.self_loop.Goals as goal
+use Rattle.adjacency.proofs.arcs.self_loop.Goals.{After-offset-end, After-stands_in, In-loop-u}
+
+pub overflow_sub-n : goal.overflow_sub-n
+overflow_sub-n c = omega (arith, c.requires.cover.some)
+
+pub loop-u-init : goal.loop-u-init
+loop-u-init c = passed_start _ _
+
+-- u is a vertex
+vertex : (c : In-loop-u) → c.loop-u.u < size_of c.args.offsets.now
+unfolding size_of
+vertex c = c.loop-u-test.true
+
+pub offset-begin-requires : goal.offset-begin-requires
+offset-begin-requires c = omega (arith, vertex c, size_suc c.requires.cover)
+
+pub offset-end-requires : goal.offset-end-requires
+offset-end-requires c = omega (arith, vertex (goal.at.offset-end-requires c).In-loop-u, size_suc c.requires.cover)
+
+-- its list ends at the next offset
+ends : (c : After-offset-end)
+    →     c.offset-end.result ≡ at c.args.offsets.now (suc c.loop-u.u)
+ends c = c.offset-end.ensures ∙ ap (λ (x : ℕ). at c.args.offsets.now x) (add-one c.loop-u.u)
+
+pub stands_in-requires : goal.stands_in-requires
+stands_in-requires c =
+    omega (arith, ends c, offset_inside c.requires.cover (suc c.loop-u.u) (vertex (goal.at.stands_in-requires c).In-loop-u))
+
+-- what was asked of its list
+told : (c : After-stands_in)
+    →     let a = c.args in
+    c.stands_in.result ≡ arcs_listed a.offsets.now a.neighbours.now c.loop-u.u c.loop-u.u
+unfolding arcs_listed
+told c =
+    let a = c.args in
+    c.stands_in.ensures ∙ ap₂ (λ (x y : ℕ). stands_in a.neighbours.now x y c.loop-u.u) c.offset-begin.ensures (ends (goal.at.After-stands_in c).After-offset-end)
+
+pub returns-then-stands_in : goal.returns-then-stands_in
+unfolding size_of self_loop_in
+returns-then-stands_in c =
+    any_found _ _ c.loop-u-test.true (sym (told (goal.at.returns-then-stands_in c).After-stands_in) ∙ c.if-stands_in.true)
+
+pub loop-u-preserved : goal.loop-u-preserved
+loop-u-preserved c =
+    passed_more c.loop-u.invariant c.loop-u-test.true (sym (told (goal.at.loop-u-preserved c).After-stands_in) ∙ c.if-stands_in.false)
+
+pub returns : goal.returns
+unfolding size_of self_loop_in
+returns c = any_unfound c.loop-u.invariant c.loop-u-test.false

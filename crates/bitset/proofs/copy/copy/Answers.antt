@@ -1,0 +1,24 @@
+-- `bitset::copy::copy` meets its contract.
+-- Assumes nothing.
+use Prim.Native.Nat.{◌-◌}
+use native.Mathlib.Omega.{arith}
+use Rattle.bitset.proofs.Copying.{copying_start, copying_next, copying_end}
+use Rattle.bitset.proofs.copy.copy.Goals as goal
+
+pub loop-u-init : goal.loop-u-init
+loop-u-init c = copying_start c.args.rows.now c.args.copy.now c.requires.0 c.requires.1
+
+pub offset_bounds-copy-u : goal.offset_bounds-copy-u
+offset_bounds-copy-u c = omega (arith, c.requires)
+
+pub bounds-copy-u : goal.bounds-copy-u
+bounds-copy-u c = omega (arith, c.requires)
+
+pub overflow_step-u : goal.overflow_step-u
+overflow_step-u c = omega (arith, c.requires)
+
+pub loop-u-preserved : goal.loop-u-preserved
+loop-u-preserved c = copying_next c.args.rows.now c.args.copy.now c.requires.0 c.requires.1 c.loop-u.invariant (omega arith)
+
+pub returns : goal.returns
+returns c = copying_end c.args.rows.now c.args.copy.now c.requires.0 c.requires.1 c.loop-u.invariant (omega arith)

@@ -1,0 +1,48 @@
+-- `choice::last_of` meets its contract: `most` is the greatest rank so far. The measure is the word that is left.
+-- Assumes nothing.
+use Prim.Native.Nat.{ℕ, ◌<◌}
+use mathlib.Core.Path.{sym, ap, ◌∙◌, subst}
+use mathlib.Core.Logic.{inl, inr, ⊎_elim}
+use native.Mathlib.Omega.{arith}
+use lib.Dec.{T}
+use Rattle.bitset.specs.Word.{member}
+use Rattle.bitset.proofs.Scan.{first_member, removed_less, taken_out}
+use Rattle.searches.specs.Ordering.{at}
+use Rattle.choice.proofs.Ranking.{Ranking, ranking_start, ranking_next, ranking_fits, ranking_end}
+use Rattle.choice.proofs.last_of.Goals as goal
+use Rattle.choice.proofs.last_of.Goals.{After-smallest}
+
+-- the smallest number of what is left is in it
+found : (c : After-smallest) → (c.smallest.result < 64) × T (member c.loop-rest.rest c.smallest.result)
+found c =
+    let rest = c.loop-rest.rest in
+    subst (λ (u : ℕ). (u < 64) × T (member rest u)) (sym c.smallest.ensures) (first_member rest c.loop-rest.invariant.left (omega arith))
+
+pub loop-rest-init : goal.loop-rest-init
+loop-rest-init c = ranking_start c.args.tie_break.now c.args.ranks.now c.args.set c.ranges.set.fits
+
+pub bounds-ranks-smallest : goal.bounds-ranks-smallest
+bounds-ranks-smallest c = omega (arith, (found (goal.at.bounds-ranks-smallest c).After-smallest).0)
+
+pub loop-rest-smaller : goal.loop-rest-smaller
+loop-rest-smaller c =
+    subst (λ (x : ℕ). x < c.loop-rest.rest) (sym (taken_out c.loop-rest.rest c.without_smallest-rest.ensures c.smallest.ensures)) (removed_less c.loop-rest.rest c.smallest.result c.loop-rest.invariant.left (found (goal.at.loop-rest-smaller c).After-smallest).1)
+
+pub loop-rest-preserved : goal.loop-rest-preserved
+loop-rest-preserved c =
+    let a = c.args in
+    let u = c.smallest.result in
+    let next = ranking_next a.tie_break.now a.ranks.now a.set c.loop-rest.invariant u (found (goal.at.loop-rest-preserved c).After-smallest).1 in
+    subst (λ (x : ℕ). Ranking a.tie_break.now a.ranks.now a.set c.if-most-place.most x) (sym (taken_out c.loop-rest.rest c.without_smallest-rest.ensures c.smallest.ensures))
+    (⊎_elim (λ t. next (omega (arith, t.0.taken, t.1)) (omega (arith, t.1)) (inr t.1))
+    (λ t. next (omega (arith, t.1)) (omega (arith, t.0.left, t.1)) (inl t.1)) c.if-most-place.branch)
+
+pub overflow_cast-most : goal.overflow_cast-most
+overflow_cast-most c =
+    omega (arith, c.requires.0, ranking_fits c.args.tie_break.now c.args.ranks.now c.args.set c.requires.1 c.requires.2 c.loop-rest.invariant)
+
+pub returns : goal.returns
+returns c =
+    let a = c.args in
+    c.entry.ensures
+    ∙ ap (λ (q : ℕ). at a.tie_break.now q) (ranking_end a.tie_break.now a.ranks.now a.set c.requires.1 c.requires.2 c.loop-rest.invariant c.loop-rest-test.false)

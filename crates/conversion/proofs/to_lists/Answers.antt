@@ -1,0 +1,74 @@
+-- `conversion::to_lists` meets its contract: the tests on the rows come first, then that the output lists have room; then both are written.
+-- Assumes nothing.
+use Prim.Native.Nat.{◌≤◌, ◌<◌}
+use mathlib.Core.Path.{◌≡◌, sym, ap, ◌∙◌}
+use mathlib.Core.Option.{none}
+use native.Mathlib.Omega.{arith}
+use lib.ListN.{length}
+use Rattle.searches.specs.Answer.{open_tests_barring, first_refusal, number, refusal_of}
+use Rattle.checks.proofs.Tried.{rows_fit}
+use Rattle.conversion.specs.Conversion.{neighbours_of, rows_tests}
+use Rattle.conversion.proofs.Answers.{open_rows, rows_refused, offsets_short, neighbours_short, lists_fit, lists_kept, lists_done}
+use Rattle.conversion.proofs.to_lists.Goals as goal
+use Rattle.conversion.proofs.to_lists.Goals.{Else-neighbours-arc_count, In_default}
+
+-- no test on the rows holds
+accepted : (c : In_default) → let a = c.args in none ≡ first_refusal (open_tests_barring 0 a.mark a.rows.now 0)
+unfolding refusal_of
+accepted c = sym (ap refusal_of c.in_default.is) ∙ c.open_refusal-checked.ensures
+
+valid : (c : In_default) → let a = c.args in none ≡ first_refusal (rows_tests a.mark a.rows.now)
+valid c = let a = c.args in accepted c ∙ open_rows a.mark a.rows.now
+
+-- so there are at most 64
+small : (c : In_default) → length c.args.rows.now ≤ 64
+small c = let a = c.args in rows_fit 0 a.mark a.rows.now 0 (accepted c)
+
+-- and both lists have room
+enough : (c : Else-neighbours-arc_count)
+    → let a = c.args in
+    (length a.rows.now < length a.offsets.now) × (length (neighbours_of a.rows.now) ≤ length a.neighbours.now)
+enough c = (omega (arith, c.if-offsets-rows.false), omega (arith, c.if-neighbours-arc_count.false, c.arc_count.ensures))
+
+pub open_refusal-checked-requires : goal.open_refusal-checked-requires
+open_refusal-checked-requires c = tt
+
+pub returns-in-Refused : goal.returns-in-Refused
+unfolding refusal_of
+returns-in-Refused c =
+    let a = c.args in
+    let first = sym (ap refusal_of c.in-Refused.is) ∙ c.open_refusal-checked.ensures ∙ open_rows a.mark a.rows.now in
+    let answer = rows_refused a.mark a.rows.now a.offsets.now a.neighbours.now first in
+    let whole = (answer, lists_kept a.mark a.rows.now a.offsets.now a.neighbours.now answer) in
+    record { answer = whole.0; offsets = whole.1; neighbours = whole.2 }
+
+pub returns-then-offsets-rows : goal.returns-then-offsets-rows
+unfolding number refusal_of
+returns-then-offsets-rows c =
+    let a = c.args in
+    let answer = offsets_short a.mark a.rows.now a.offsets.now a.neighbours.now (valid (goal.at.returns-then-offsets-rows c).In_default) c.if-offsets-rows.true in
+    let whole = (answer, lists_kept a.mark a.rows.now a.offsets.now a.neighbours.now answer) in
+    record { answer = whole.0; offsets = whole.1; neighbours = whole.2 }
+
+pub arc_count-requires : goal.arc_count-requires
+arc_count-requires c = small (goal.at.arc_count-requires c).In_default
+
+pub returns-then-neighbours-arc_count : goal.returns-then-neighbours-arc_count
+unfolding number refusal_of
+returns-then-neighbours-arc_count c =
+    let a = c.args in
+    let answer = neighbours_short a.mark a.rows.now a.offsets.now a.neighbours.now (valid (goal.at.returns-then-neighbours-arc_count c).In_default) (omega (arith, c.if-neighbours-arc_count.true, c.arc_count.ensures)) in
+    let whole = (answer, lists_kept a.mark a.rows.now a.offsets.now a.neighbours.now answer) in
+    record { answer = whole.0; offsets = whole.1; neighbours = whole.2 }
+
+pub write_lists-requires : goal.write_lists-requires
+write_lists-requires c = let long = enough (goal.at.write_lists-requires c).Else-neighbours-arc_count in (small (goal.at.write_lists-requires c).In_default, long.0, long.1)
+
+pub returns : goal.returns
+unfolding refusal_of
+returns c =
+    let a = c.args in
+    let answer = lists_fit a.mark a.rows.now a.offsets.now a.neighbours.now (valid (goal.at.returns c).In_default) (enough (goal.at.returns c).Else-neighbours-arc_count).0 (enough (goal.at.returns c).Else-neighbours-arc_count).1 in
+    let left = lists_done a.mark a.rows.now a.offsets.now a.neighbours.now answer in
+    let whole = (answer, (c.write_lists.ensures.offsets ∙ left.0, c.write_lists.ensures.neighbours ∙ left.1)) in
+    record { answer = whole.0; offsets = whole.1; neighbours = whole.2 }

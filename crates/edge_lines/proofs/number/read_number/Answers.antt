@@ -1,0 +1,69 @@
+-- `edge_lines::number::read_number` meets its contract: each turn reads one digit more.
+-- Assumes nothing.
+use Prim.Native.Nat.{ℕ, ◌+◌, ◌-◌, ◌<◌}
+use mathlib.Core.Path.{ap, ◌∙◌, sym, subst}
+use mathlib.Core.Bool.{not, ◌&&◌, ◌||◌}
+use native.Mathlib.Omega.{arith}
+use lib.Dec.{T, ltb, eqb}
+use lib.ListN.{length}
+use Rattle.bitset.proofs.Tests.{said_true, said_false}
+use Rattle.searches.specs.Ordering.{at}
+use Rattle.wording.specs.Decimal.{is_digit}
+use Rattle.edge_lines.specs.Reading.{appended}
+use Rattle.edge_lines.proofs.Scanning.{Counting, counting_start, counting_next, counting_value, counting_rest, numeral_test, digit_range, digit_inside}
+use Rattle.edge_lines.proofs.number.read_number.Goals as goal
+use Rattle.edge_lines.proofs.number.read_number.Goals.{After-loop-value, In-loop-value}
+
+-- a digit stands at the end
+digit : (c : In-loop-value) → T (is_digit (at c.args.line.now c.loop-value.end))
+digit c = said_true _ c.digit_at.ensures c.loop-value-test.true
+
+-- so it is inside
+inside : (c : In-loop-value) → c.loop-value.end < length c.args.line.now
+inside c = digit_inside c.args.line.now (digit c)
+
+-- none stands there
+stopped : (c : After-loop-value) → T (is_digit (at c.args.line.now c.loop-value.end)) → ⊥
+stopped c = said_false _ c.digit_at.ensures c.loop-value-test.false
+
+pub loop-value-init : goal.loop-value-init
+loop-value-init c = counting_start _ _
+
+pub digit_at-requires : goal.digit_at-requires
+digit_at-requires c = tt
+
+pub byte_at-requires : goal.byte_at-requires
+byte_at-requires c = tt
+
+pub append-value-requires : goal.append-value-requires
+append-value-requires c = let range = digit_range _ (digit (goal.at.append-value-requires c).In-loop-value) in (omega (arith, range.0, c.byte_at.ensures), omega (arith, range.1, c.byte_at.ensures))
+
+pub overflow_add-end : goal.overflow_add-end
+overflow_add-end c = omega (arith, inside (goal.at.overflow_add-end c).In-loop-value)
+
+pub loop-value-smaller : goal.loop-value-smaller
+loop-value-smaller c = omega (arith, inside (goal.at.loop-value-smaller c).In-loop-value)
+
+pub loop-value-preserved : goal.loop-value-preserved
+loop-value-preserved c =
+    let line = c.args.line.now in
+    subst (λ (x : ℕ). Counting line c.args.cursor.at (c.loop-value.end + 1) x)
+    (ap (λ (b : ℕ). appended c.loop-value.value b) (sym c.byte_at.ensures) ∙ sym c.append-value.ensures)
+    (counting_next line _ c.loop-value.invariant (digit (goal.at.loop-value-preserved c).In-loop-value))
+
+pub overflow_sub-count : goal.overflow_sub-count
+overflow_sub-count c = omega (arith, c.loop-value.invariant.onward)
+
+pub byte_at-unpadded-requires : goal.byte_at-unpadded-requires
+byte_at-unpadded-requires c = tt
+
+pub returns : goal.returns
+returns c =
+    let line = c.args.line.now in
+    let start = c.args.cursor.at in
+    let p = c.loop-value.invariant in
+    let whole = (
+      counting_value line start p (stopped (goal.at.returns c).After-loop-value),
+      (ap (λ (b : ℕ). ltb 0 (c.loop-value.end - start) && (not (eqb b 48) || eqb (c.loop-value.end - start) 1)) c.byte_at-unpadded.ensures ∙ numeral_test line start p (stopped (goal.at.returns c).After-loop-value), counting_rest line start p (stopped (goal.at.returns c).After-loop-value)),
+    ) in
+    record { value = whole.0; sound = whole.1; rest = whole.2 }

@@ -1,0 +1,30 @@
+-- `judgement::judge_first` meets its contract: where there are no more bytes, the first are all.
+-- Assumes nothing.
+use mathlib.Core.Path.{sym, ap, ◌∙◌}
+use mathlib.Core.List.{List}
+use Prim.Native.Nat.{ℕ}
+use native.Mathlib.Omega.{arith}
+use lib.ListN.{length}
+use lib.Seq.{sets, take_all, length-take-le}
+use Rattle.sheet.specs.Sheet.{stopped_in}
+use Rattle.judgement.specs.Judged.{judgement}
+use Rattle.judgement.proofs.judge_first.Goals as goal
+
+pub returns-then-bytes-count : goal.returns-then-bytes-count
+returns-then-bytes-count c =
+    let written = c.write_judgement in
+    let a = c.args in
+    let all = sym (take_all a.count a.bytes.now c.if-bytes-count.true) in
+    let whole = (
+      written.ensures.0 ∙ ap (λ (b : List ℕ). sets a.output.now 0 (judgement b)) all,
+      (written.ensures.1.0 ∙ ap (λ (b : List ℕ). length (judgement b)) all, written.ensures.1.1 ∙ ap stopped_in all),
+    ) in
+    record { output = whole.0; length = whole.1; line = whole.2 }
+
+pub slice_bounds-write_judgement-end : goal.slice_bounds-write_judgement-end
+slice_bounds-write_judgement-end c = sym (length-take-le _ _ (omega (arith, c.if-bytes-count.false)))
+
+pub returns : goal.returns
+returns c = let written = c.write_judgement-2 in
+    let whole = (written.ensures.0, (written.ensures.1.0, written.ensures.1.1)) in
+    record { output = whole.0; length = whole.1; line = whole.2 }

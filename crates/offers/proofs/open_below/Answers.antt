@@ -1,0 +1,36 @@
+-- `offers::open_below` meets its contract: the set holds the open vertices that were passed.
+-- Assumes nothing.
+use Prim.Native.Nat.{ℕ, ◌-◌}
+use mathlib.Core.Path.{◌≡◌, refl, sym, ap, ◌∙◌}
+use mathlib.Core.Logic.{⊎_elim}
+use native.Mathlib.Omega.{arith}
+use Rattle.searches.specs.Kind.{search_of}
+use Rattle.offers.specs.Open.{open_in}
+use Rattle.bitset.specs.Word.{set_below}
+use Rattle.bitset.proofs.Joining.{set_more, set_same}
+use Rattle.offers.proofs.open_below.Goals as goal
+
+pub loop-v-init : goal.loop-v-init
+unfolding set_below
+loop-v-init c = (omega arith, refl)
+
+pub overflow_cast-number : goal.overflow_cast-number
+overflow_cast-number c = omega (arith, c.requires.0)
+
+pub is_open-requires : goal.is_open-requires
+is_open-requires c = c.requires.1
+
+pub loop-v-preserved : goal.loop-v-preserved
+loop-v-preserved c =
+    let test = open_in (search_of c.args.kind.0) c.args.labels.now c.args.free in (
+      omega arith,
+      ⊎_elim
+          (λ x. x.2 ∙ x.1.ensures ∙ set_more test c.loop-v.invariant.1 (sym c.is_open.ensures ∙ x.0.taken))
+          (λ x. x.1 ∙ set_same test c.loop-v.invariant.1 (sym c.is_open.ensures ∙ x.0.left)) c.if-is_open.branch,
+    )
+
+pub returns : goal.returns
+returns c =
+    let a = c.args in
+    let all : c.loop-v.v ≡ a.n = omega (arith, c.loop-v.invariant.0) in
+    c.loop-v.invariant.1 ∙ ap (λ (m : ℕ). set_below m (open_in (search_of a.kind.0) a.labels.now a.free)) all

@@ -1,0 +1,113 @@
+-- `steps::replay::replay` meets its contract.
+-- Assumes nothing.
+use Prim.Native.Nat.{ℕ, ◌-◌}
+use mathlib.Core.Path.{◌≡◌, sym, ap, ◌∙◌, subst}
+use mathlib.Core.Bool.{Bool, true, false, not}
+use lib.Dec.{T}
+use lib.ListN.{length}
+use native.Mathlib.Omega.{arith}
+use Rattle.bitset.specs.Word.{difference}
+use Rattle.bitset.proofs.Tests.{said_true, said_false, not_true, not_false}
+use Rattle.searches.specs.Kind.{search_of}
+use Rattle.steps.specs.Steps.{whole, labels_after, smallest_after, largest_after, placed_after, free_after, stops_at, Staged}
+use Rattle.steps.proofs.Representation.{whole_inside, whole_word}
+use Rattle.steps.proofs.Replaying.{asked, replay_start, replay_placeable, replay_next, replay_stop, replay_end}
+use Rattle.steps.proofs.replay.replay.Goals as goal
+use Rattle.steps.proofs.replay.replay.Goals.{After-is_open}
+
+pub without-all-requires : goal.without-all-requires
+without-all-requires c = tt
+
+pub loop-j-init : goal.loop-j-init
+unfolding whole
+loop-j-init c =
+    let a = c.args in
+    let n = length a.rows.now in
+    replay_start (search_of a.kind.0) a.rows.now (whole n a.barred) a.ordering.now a.k (whole_inside c.requires.small a.barred) c.requires (whole_word n a.barred)
+    (c.without-all.ensures ∙ ap (λ (x : ℕ). difference x a.barred) c.full_below.ensures)
+
+pub vertex_at-b-requires : goal.vertex_at-b-requires
+vertex_at-b-requires c = omega (arith, c.requires.long, c.loop-j-test.true)
+
+pub is_open-requires : goal.is_open-requires
+is_open-requires c =
+    let staged = c.loop-j.invariant.staged in
+    (staged.offers, staged.covers, staged.weighed)
+
+-- whether the vertex is offered
+answered : (c : After-is_open)
+    →     let a = c.args in
+    c.is_open.result ≡ not (stops_at (search_of a.kind.0) a.rows.now (whole (length a.rows.now) a.barred) a.ordering.now c.loop-j.j)
+answered c =
+    let a = c.args in
+    asked (search_of a.kind.0) a.rows.now (whole (length a.rows.now) a.barred) a.ordering.now a.k (whole_inside c.requires.small a.barred) c.requires c.loop-j.invariant c.loop-j-test.true c.vertex_at-b.ensures c.is_open.ensures
+
+pub returns-then-not-is_open : goal.returns-then-not-is_open
+returns-then-not-is_open c =
+    let k = search_of c.args.kind.0 in
+    let w = c.args.ordering.now in
+    let r = c.args.rows.now in
+    let all = whole (length r) c.args.barred in
+    let i = c.loop-j.invariant in
+    let closed = said_false (not (stops_at k r all w c.loop-j.j)) (answered (goal.at.returns-then-not-is_open c).After-is_open) (not_true c.is_open.result c.if-not-is_open.true) in
+    let whole = (
+      replay_stop k r all w c.args.k i c.loop-j-test.true (stops (stops_at k r all w c.loop-j.j) closed),
+      (i.set, (i.unplaced, (i.labelled, (i.after_smallest, (i.after_largest, i.staged))))),
+    )
+  where
+    stops : (b : Bool) → (T (not b) → ⊥) → T b
+    stops true out = tt
+    stops false out = absurd (out tt) in
+    record { count = whole.0; set = whole.1; free = whole.2; labels = whole.3; smallest = whole.4; largest = whole.5; staged = whole.6 }
+
+pub place-stage-requires : goal.place-stage-requires
+place-stage-requires c =
+    let a = c.args in
+    replay_placeable (search_of a.kind.0) a.rows.now (whole (length a.rows.now) a.barred) a.ordering.now a.k (whole_inside c.requires.small a.barred) c.requires c.loop-j.invariant c.loop-j-test.true c.vertex_at-b.ensures
+
+pub overflow_step-j : goal.overflow_step-j
+overflow_step-j c =
+    omega (arith, c.loop-j-test.true, c.ranges.k.fits)
+
+pub loop-j-preserved : goal.loop-j-preserved
+loop-j-preserved c =
+    let a = c.args in
+    let k = search_of a.kind.0 in
+    let w = a.ordering.now in
+    let r = a.rows.now in
+    let all = whole (length r) a.barred in
+    let e = c.place-stage.ensures in
+    replay_next k r all w a.k (whole_inside c.requires.small a.barred) c.requires c.loop-j.invariant c.loop-j-test.true c.vertex_at-b.ensures c.place-stage.new.labels c.place-stage.new.smallest
+    c.place-stage.new.largest c.place-stage.result
+    (goes_on (stops_at k r all w c.loop-j.j) (said_true (not (stops_at k r all w c.loop-j.j)) (answered (goal.at.loop-j-preserved c).After-is_open) (not_false c.is_open.result c.if-not-is_open.false)))
+    e.1.1.0 e.1.1.1.0 e.1.1.1.1.0 e.0 e.1.0 e.1.1.1.1.1
+  where
+    goes_on : (b : Bool) → T (not b) → T b → ⊥
+    goes_on true t = λ _. t
+    goes_on false t = λ x. x
+
+pub returns : goal.returns
+returns c =
+    let k = search_of c.args.kind.0 in
+    let w = c.args.ordering.now in
+    let r = c.args.rows.now in
+    let all = whole (length r) c.args.barred in
+    let i = c.loop-j.invariant in
+    let e : c.loop-j.j ≡ c.args.k = omega (arith, i.upto) in
+    let whole = (
+      sym e ∙ replay_end k r all w c.args.k i (omega arith),
+      (
+        i.set ∙ ap (λ (m : ℕ). placed_after w m) e,
+        (
+          i.unplaced ∙ ap (λ (m : ℕ). free_after all w m) e,
+          (
+            i.labelled ∙ ap (λ (m : ℕ). labels_after r all w m) e,
+            (
+              i.after_smallest ∙ ap (λ (m : ℕ). smallest_after r all w m) e,
+              (i.after_largest ∙ ap (λ (m : ℕ). largest_after r all w m) e, subst (Staged k c.loop-j.labels c.loop-j.weights c.loop-j.stage) e i.staged),
+            ),
+          ),
+        ),
+      ),
+    ) in
+    record { count = whole.0; set = whole.1; free = whole.2; labels = whole.3; smallest = whole.4; largest = whole.5; staged = whole.6 }

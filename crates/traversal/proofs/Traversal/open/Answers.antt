@@ -1,0 +1,39 @@
+-- `traversal::Traversal::open` meets its contract: refused it is the empty open walk, else the rows are copied.
+-- Assumes nothing.
+use Prim.Native.Nat.{ℕ}
+use mathlib.Core.Path.{◌≡◌, refl, sym, ap, ◌∙◌}
+use mathlib.Core.List.{List, ◌++◌}
+use mathlib.Core.Option.{none}
+use lib.ListN.{length, replicate}
+use Rattle.searches.specs.Answer.{refusal_of, open_tests_barring, first_refusal, open_barring}
+use Rattle.checks.proofs.Tried.{rows_fit}
+use Rattle.traversal.specs.State.{state, nothing_open, opened}
+use Rattle.bitset.proofs.Copying.{behind_zeros}
+use Rattle.traversal.proofs.Answered.{next_handed, kept_handed}
+use Rattle.traversal.proofs.Traversal.open.Goals as goal
+use Rattle.traversal.proofs.Traversal.open.Goals.{In_default}
+
+pub returns-in-Refused : goal.returns-in-Refused
+unfolding refusal_of open_barring opened nothing_open
+returns-in-Refused c =
+    let e = sym (ap refusal_of c.in-Refused.is) ∙ c.open_refusal-checked.ensures in
+    (kept_handed _ nothing_open e, e)
+
+accepted : (c : In_default)
+    → let a = c.args in
+    none ≡ first_refusal (open_tests_barring a.kind.0 a.mark a.rows.now a.barred)
+unfolding refusal_of
+accepted c = sym (ap refusal_of c.in_default.is) ∙ c.open_refusal-checked.ensures
+
+pub copy-requires : goal.copy-requires
+copy-requires c = (rows_fit _ _ _ _ (accepted (goal.at.copy-requires c).In_default), refl)
+
+pub returns : goal.returns
+unfolding refusal_of open_barring opened
+returns c =
+    let a = c.args in
+    let rows = a.rows.now in (
+      ap (λ (copy : List ℕ). state a.kind a.mark (length rows) copy a.barred 0 (replicate 64 0)) (c.copy.ensures ∙ ap (λ (x : List ℕ). rows ++ x) (behind_zeros (length rows)))
+          ∙ next_handed _ nothing_open (accepted (goal.at.returns c).In_default),
+      accepted (goal.at.returns c).In_default,
+    )

@@ -1,0 +1,12 @@
+-- `violation::first_by_position` meets its contract: no position that was passed has a vertex that completes a violation.
+use Prim.Native.Nat.{◌-◌, ◌<◌}
+use Rattle.bitset.proofs.Passed.{Passed}
+use Rattle.searches.specs.Kind.{search_of}
+use Rattle.violation.specs.Fault.{behind_in}
+use Rattle.violation.proofs.first_by_position.Given as goal
+
+abbrev pub invariant-loop-p : goal.invariant-loop-p
+invariant-loop-p l = Passed l.k (behind_in (search_of l.kind.0) l.labels l.front l.i.0 l.mine.label l.ordering l.middle) l.p × (l.middle < l.p)
+
+abbrev pub decreases-loop-p : goal.decreases-loop-p
+decreases-loop-p l = l.k - l.p

@@ -1,0 +1,23 @@
+-- `wide::fault::first_first` meets its contract.
+-- Assumes nothing.
+use Prim.Native.Nat.{◌-◌}
+use mathlib.Core.Path.{sym, ◌∙◌}
+use Rattle.bitset.proofs.Passed.{passed_start, passed_more, first_found, first_unfound}
+use Rattle.wide.proofs.fault.first_first.Goals as goal
+
+pub loop-i-init : goal.loop-i-init
+loop-i-init c = passed_start _ _
+
+pub starts-requires : goal.starts-requires
+starts-requires c = (c.requires, c.loop-i-test.true)
+
+pub returns-then-starts : goal.returns-then-starts
+returns-then-starts c =
+    first_found c.loop-i.invariant (sym c.starts.ensures ∙ c.if-starts.true)
+
+pub loop-i-preserved : goal.loop-i-preserved
+loop-i-preserved c =
+    passed_more c.loop-i.invariant c.loop-i-test.true (sym c.starts.ensures ∙ c.if-starts.false)
+
+pub returns : goal.returns
+returns c = first_unfound c.loop-i.invariant c.loop-i-test.false

@@ -1,0 +1,71 @@
+-- `wide::fill::fill` meets its contract. The loop's invariant: behind every walk that has left what is kept at the start, i vertices are chosen.
+-- Assumes nothing.
+use Prim.Native.Nat.{◌+◌, ◌-◌, ◌<◌}
+use mathlib.Core.Path.{refl}
+use native.Mathlib.Omega.{arith}
+use Rattle.searches.proofs.Ordering.{ordering_fits}
+use Rattle.wide.proofs.Filling.{filling_start, filling_below, filling_inside, filling_choosable, filling_placeable, filling_next, filling_end}
+use Rattle.wide.proofs.fill.fill.Goals as goal
+use Rattle.wide.proofs.fill.fill.Goals.{After-choose-v}
+
+pub rank-requires : goal.rank-requires
+rank-requires c =
+    let b = c.requires.1 in
+    let whole = (
+      (omega (arith, b.graph.small, b.tie_break.full), refl),
+      (
+        λ q h. omega (arith, b.graph.small, b.tie_break.ordering.vertices q (omega (arith, h, b.tie_break.full))),
+        λ p q g h. b.tie_break.ordering.distinct p q g (omega (arith, h, b.tie_break.full)),
+      ),
+    ) in
+    record { tie_break_len_bound = whole.0; by_index = whole.1; by_index_2 = whole.2 }
+
+pub overflow_sub-count : goal.overflow_sub-count
+overflow_sub-count c =
+    let b = c.requires.1 in
+    omega (arith, ordering_fits _ b.ordering)
+
+pub loop-i-init : goal.loop-i-init
+loop-i-init c w b = filling_start _ _ _ _ _ _ _ b
+
+pub choose-v-requires : goal.choose-v-requires
+choose-v-requires c =
+    filling_choosable _ _ _ _ _ _ _ c.requires.1 (c.loop-i.invariant c.requires.0 c.requires.1) c.loop-i-test.true c.rank.ensures
+
+-- the next position
+below : (c : After-choose-v) → c.args.k + c.loop-i.i < 512
+below c =
+    omega (arith, filling_below _ _ _ _ _ _ _ c.requires.1 (c.loop-i.invariant c.requires.0 c.requires.1) c.loop-i-test.true, c.requires.1.graph.small)
+
+pub offset_bounds-tail-i : goal.offset_bounds-tail-i
+offset_bounds-tail-i c = record { fits = omega (arith, below c) }
+
+pub bounds-tail-i : goal.bounds-tail-i
+bounds-tail-i c =
+    filling_inside _ _ _ _ _ _ _ c.requires.1 (c.loop-i.invariant c.requires.0 c.requires.1) c.loop-i-test.true
+
+pub overflow_add-p : goal.overflow_add-p
+overflow_add-p c = record { fits = omega (arith, below c) }
+
+pub place-requires : goal.place-requires
+place-requires c =
+    filling_placeable _ _ _ _ _ _ _ c.requires.1 (c.loop-i.invariant c.requires.0 c.requires.1) c.loop-i-test.true c.choose-v.ensures
+
+pub overflow_step-i : goal.overflow_step-i
+overflow_step-i c =
+    record { fits = omega (arith, c.loop-i-test.true, c.ranges.n) }
+
+pub loop-i-smaller : goal.loop-i-smaller
+loop-i-smaller c =
+    omega (arith, c.loop-i-test.true)
+
+pub loop-i-preserved : goal.loop-i-preserved
+loop-i-preserved c w b =
+    filling_next _ _ _ _ _ _ _ b (c.loop-i.invariant w b) c.loop-i-test.true c.choose-v.ensures c.place.ensures.placed c.place.ensures.stored
+
+pub shape_of-tail : goal.shape_of-tail
+shape_of-tail c =
+    (c.loop-i.invariant c.requires.0 c.requires.1).long
+
+pub returns : goal.returns
+returns c w b = filling_end _ _ _ _ _ _ _ b (c.loop-i.invariant w b) c.loop-i-test.false
