@@ -3,7 +3,7 @@
 --   arcs_wide m table u v     u leads to v: with m words a row, bit v mod 64 of word v div 64 of row u is set     [02, K12]
 --   size_wide m table         how many rows the table has
 --   widened m rows           rows of one word each as a table of m + 1 words a row
-use Rattle.std.specs.Prelude.{ℕ, suc, ◌+◌, ◌*◌, ◌/◌, ◌%◌, Bool, ◌&&◌, List, [], ◌∷◌, ◌++◌, ltb, length, get_or, replicate}
+use Rattle.std.specs.Prelude.{ℕ, ◌+◌, ◌*◌, ◌/◌, ◌%◌, Bool, ◌&&◌, List, [], ◌∷◌, ◌++◌, ltb, length, get_or, replicate}
 use Rattle.bitset.specs.Word.{member}
 
 -- no vertex from 64 * m up is in a row, so that a number beyond a row reads no other row

@@ -9,6 +9,7 @@ use Rattle.bitset.proofs.Tests.{said_true, said_false}
 use Rattle.cents.specs.Cents.{cents_halves_up}
 use Rattle.cents.proofs.Cents.{to_even_less, to_even_same}
 use Rattle.cents.proofs.cents_to_even.Goals as goal
+use Rattle.cents.proofs.cents_to_even.Goals.{else-product-eq30-via-then-product-eq30+else-up-eq1, else-product-eq30-via-else-product-eq30}
 
 pub cents_halves_up-up-requires : goal.cents_halves_up-up-requires
 cents_halves_up-up-requires c = c.requires
@@ -21,7 +22,6 @@ pub returns-then-up-eq1 : goal.returns-then-up-eq1
 returns-then-up-eq1 c =
     let x = c.args.product in
     let up = c.cents_halves_up-up in
-    let odd : up.result % 2 ≡ 1 = eqb→eq (up.result % 2) 1 (said_true _ refl c.if-up-eq1.true) in
     ap (λ (q : ℕ). q - 1) up.ensures ∙ sym (to_even_less x c.if-product-eq30.true (omega (arith, up.ensures)))
 
 pub returns-else-product-eq30 : goal.returns-else-product-eq30
@@ -30,9 +30,6 @@ returns-else-product-eq30 c = c.cents_halves_up-up.ensures ∙ sym (to_even_same
     never : c.args.product % 60 ≡ 30 → cents_halves_up c.args.product % 2 ≡ 1 → ⊥
     never half odd =
         elim c.else-product-eq30.branch [
-          | inl x ↦
-              let up = c.cents_halves_up-up in
-              let same : up.result % 2 ≡ 1 = omega (arith, up.ensures) in
-              said_false (eqb (up.result % 2) 1) refl x.1.left (subst (λ (i : ℕ). T (eqb i 1)) (sym same) tt)
-          | inr x ↦ x.left half
+          | else-product-eq30-via-then-product-eq30+else-up-eq1 w ↦ w.if-up-eq1.false (ap (λ (q : ℕ). q % 2) c.cents_halves_up-up.ensures ∙ odd)
+          | else-product-eq30-via-else-product-eq30 w ↦ w.if-product-eq30.false half
         ]

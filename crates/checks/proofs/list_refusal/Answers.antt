@@ -12,7 +12,7 @@ use borrow.Author.Tests.{lt-ltb, le-ltb, eq-eqb, ne_eqb}
 use Rattle.searches.specs.Answer.{open_tests, open_tests_barring, list_tests_barring, first_refusal, number, refusal_of}
 use Rattle.checks.proofs.Tried.{Tried, tried_one, tried_first, refused_here, refused_before, rows_fit, entries_fit}
 use Rattle.checks.proofs.list_refusal.Goals as goal
-use Rattle.checks.proofs.list_refusal.Goals.{After-open_refusal-opened, Else-n-k, Else-output-n, Else-tie_break-n, Else-vertex_outside-2, In_default}
+use Rattle.checks.proofs.list_refusal.Goals.{After-open_refusal-opened, Else-n-k, Else-output-n, Else-tie_break-n, Else-vertex_outside-2, In_default, then-vertex_outside-via-then-vertex_outside, then-vertex_outside-via-else-vertex_outside+then-vertex_outside-2}
 
 abbrev first-tests : After-open_refusal-opened → List (ℕ × Bool)
 first-tests c = open_tests_barring c.args.kind.0 c.args.mark c.args.rows.now c.args.barred
@@ -80,10 +80,11 @@ pub returns-then-vertex_outside : goal.returns-then-vertex_outside
 unfolding open_tests open_tests_barring list_tests_barring number refusal_of
 returns-then-vertex_outside c =
     refused_here (past_9 (goal.at.returns-then-vertex_outside c).Else-tie_break-n)
-    (⊎_elim
-    (λ w. rw (sym c.vertex_outside.ensures ∙ w.taken))
-    (λ w. or_is (sym c.vertex_outside.ensures ∙ w.0.left) (sym w.1.ensures ∙ w.2.taken))
-    c.then-vertex_outside.branch)
+    (elim c.then-vertex_outside.branch [
+      | then-vertex_outside-via-then-vertex_outside w ↦ rw (sym c.vertex_outside.ensures ∙ w.if-vertex_outside.true)
+      | then-vertex_outside-via-else-vertex_outside+then-vertex_outside-2 w ↦
+          or_is (sym c.vertex_outside.ensures ∙ w.if-vertex_outside.false) (sym w.vertex_outside-else-vertex_outside.ensures ∙ w.if-vertex_outside-2.true)
+    ])
 
 pub repeated-requires : goal.repeated-requires
 repeated-requires c = record {

@@ -18,12 +18,12 @@ use Rattle.offers.proofs.is_open.Goals.{After-profile_of-mine, Else-not-contains
 pub returns-then-not-contains : goal.returns-then-not-contains
 returns-then-not-contains c =
     closed_outside (search_of c.args.kind.0) c.args.labels.now c.args.free c.args.v.0
-    (said_false (member c.args.free c.args.v.0) c.contains.ensures (not_true c.contains.result c.if-not-contains.true))
+    (said_false (member c.args.free c.args.v.0) c.contains.ensures c.if-not-contains.true)
 
 -- v is one of the free
 inside : (c : Else-not-contains) → let a = c.args in T (member a.free a.v.0) × (a.v.0 < 64)
 inside c =
-    let t = said_true (member c.args.free c.args.v.0) c.contains.ensures (not_false c.contains.result c.if-not-contains.false) in
+    let t = said_true (member c.args.free c.args.v.0) c.contains.ensures c.if-not-contains.false in
     (t, member_below 64 c.ranges.free.fits c.args.v.0 t)
 
 pub profile_of-mine-requires : goal.profile_of-mine-requires

@@ -2,13 +2,13 @@
 -- Assumes nothing.
 use Prim.Native.Nat.{ℕ, ◌-◌}
 use mathlib.Core.Path.{◌≡◌, refl, sym, ap, ◌∙◌}
-use mathlib.Core.Logic.{⊎_elim}
 use native.Mathlib.Omega.{arith}
 use Rattle.searches.specs.Kind.{search_of}
 use Rattle.offers.specs.Open.{open_in}
 use Rattle.bitset.specs.Word.{set_below}
 use Rattle.bitset.proofs.Joining.{set_more, set_same}
 use Rattle.offers.proofs.open_below.Goals as goal
+use Rattle.offers.proofs.open_below.Goals.{then-is_open, else-is_open}
 
 pub loop-v-init : goal.loop-v-init
 unfolding set_below
@@ -24,9 +24,10 @@ pub loop-v-preserved : goal.loop-v-preserved
 loop-v-preserved c =
     let test = open_in (search_of c.args.kind.0) c.args.labels.now c.args.free in (
       omega arith,
-      ⊎_elim
-          (λ x. x.2 ∙ x.1.ensures ∙ set_more test c.loop-v.invariant.1 (sym c.is_open.ensures ∙ x.0.taken))
-          (λ x. x.1 ∙ set_same test c.loop-v.invariant.1 (sym c.is_open.ensures ∙ x.0.left)) c.if-is_open.branch,
+      elim c.if-is_open.branch [
+        | then-is_open w ↦ w.set-is ∙ w.insert-set.ensures ∙ set_more test c.loop-v.invariant.1 (sym c.is_open.ensures ∙ w.if-is_open.true)
+        | else-is_open w ↦ w.set-is ∙ set_same test c.loop-v.invariant.1 (sym c.is_open.ensures ∙ w.if-is_open.false)
+      ],
     )
 
 pub returns : goal.returns

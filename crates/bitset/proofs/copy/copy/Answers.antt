@@ -1,6 +1,5 @@
 -- `bitset::copy::copy` meets its contract.
 -- Assumes nothing.
-use Prim.Native.Nat.{◌-◌}
 use native.Mathlib.Omega.{arith}
 use Rattle.bitset.proofs.Copying.{copying_start, copying_next, copying_end}
 use Rattle.bitset.proofs.copy.copy.Goals as goal

@@ -1,7 +1,7 @@
 -- `bitset::transposition::exchange_block` meets its contract: the pairs of the block that were passed are exchanged.
 -- Assumes nothing.
 use mathlib.Core.Path.{◌≡◌, ◌∙◌, subst}
-use Prim.Native.Nat.{ℕ, ◌+◌, ◌-◌}
+use Prim.Native.Nat.{ℕ, ◌+◌}
 use native.Mathlib.Omega.{arith}
 use Rattle.bitset.specs.Matrix.{Exchanged, between}
 use Rattle.bitset.proofs.Halves.{begin_low}

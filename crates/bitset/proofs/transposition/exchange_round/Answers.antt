@@ -1,7 +1,7 @@
 -- `bitset::transposition::exchange_round` meets its contract: the blocks that were passed are exchanged, and those that are left out are empty.
 -- Assumes nothing.
 use mathlib.Core.Path.{◌∙◌}
-use Prim.Native.Nat.{◌-◌, ◌*◌}
+use Prim.Native.Nat.{◌*◌}
 use native.Mathlib.Nat.{zero-mod, add-mod_right}
 use native.Mathlib.Omega.{arith}
 use Rattle.bitset.proofs.Rounds.{block_start, round_next, round_end, round_skipped}

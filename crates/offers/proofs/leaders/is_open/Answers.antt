@@ -27,13 +27,13 @@ pub returns-then-not-contains : goal.returns-then-not-contains
 returns-then-not-contains c =
     let a = c.args in
     closed_outside (search_of a.kind.0) a.labels.now a.free a.v.0
-    (said_false (member a.free a.v.0) c.contains-2.ensures (not_true c.contains-2.result c.if-not-contains.true))
+    (said_false (member a.free a.v.0) c.contains-2.ensures c.if-not-contains.true)
 
 -- v is free
 unplaced : (c : Else-not-contains) → let a = c.args in T (member a.free a.v.0)
 unplaced c =
     let a = c.args in
-    said_true (member a.free a.v.0) c.contains-2.ensures (not_false c.contains-2.result c.if-not-contains.false)
+    said_true (member a.free a.v.0) c.contains-2.ensures c.if-not-contains.false
 
 pub profile_of-mine-requires : goal.profile_of-mine-requires
 profile_of-mine-requires c =

@@ -21,12 +21,6 @@ use Rattle.offers.proofs.Leading.{Leading, leading_start, leading_next, leading_
 use Rattle.offers.proofs.leaders.leading.Goals as goal
 use Rattle.offers.proofs.leaders.leading.Goals.{After-profile_of-next, After-smallest-first, After-smallest-u}
 
--- the leaders, and the two halves of the profile that they have
-pub record Led (s : Search) (labels : List ℕ) (known rivals best label weight rest : ℕ) : Type 0 where
-  pub left : rest < 2 ^ 64
-  pub shows : weight ≡ weight_of s label
-  pub leads : (other : s ≢ mns) → Leading s other labels (united known rivals) rest best label
-
 -- the smallest of those that are known is one of them
 known : (c : After-smallest-first) → (c.smallest-first.result < 64) × T (member c.args.known c.smallest-first.result)
 known c =

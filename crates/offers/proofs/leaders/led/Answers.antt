@@ -2,11 +2,10 @@
 -- Assumes nothing.
 use mathlib.Core.Path.{◌≡◌, refl, sym, ap, ◌∙◌}
 use mathlib.Core.Bool.{Bool, true, false, cond, ◌||◌}
-use mathlib.Core.Logic.{⊎_elim}
 use Prim.Native.Nat.{ℕ}
 use Rattle.bitset.specs.Word.{inserted}
 use Rattle.offers.proofs.leaders.led.Goals as goal
-use Rattle.offers.proofs.leaders.led.Goals.{Joined-ahead}
+use Rattle.offers.proofs.leaders.led.Goals.{Joined-ahead, then-ahead, else-ahead}
 
 -- where one of the tests holds, and where none does
 joins : (ahead level : Bool) (best u : ℕ) → (ahead || level) ≡ true → inserted (cond ahead 0 best) u ≡ cond ahead (inserted 0 u) (cond level (inserted best u) best)
@@ -20,10 +19,10 @@ stays false true best u e = ap (λ (b : Bool). cond b best (inserted best u)) e
 stays false false best u e = refl
 
 -- what is kept of the leaders
-kept : (c : Joined-ahead) → c.if-ahead.auto ≡ cond c.args.ahead 0 c.args.best
+kept : (c : Joined-ahead) → c.if-ahead.kept ≡ cond c.args.ahead 0 c.args.best
 kept c =
     let a = c.args in
-    ⊎_elim (λ t. t.1 ∙ sym (ap (λ (b : Bool). cond b 0 a.best) t.0.taken)) (λ t. t.1 ∙ sym (ap (λ (b : Bool). cond b 0 a.best) t.0.left)) c.if-ahead.branch
+    elim c.if-ahead.branch [ then-ahead w ↦ w.kept-is ∙ sym (ap (λ (b : Bool). cond b 0 a.best) w.if-ahead.true) | else-ahead w ↦ w.kept-is ∙ sym (ap (λ (b : Bool). cond b 0 a.best) w.if-ahead.false) ]
 
 pub returns-then-ahead-level : goal.returns-then-ahead-level
 returns-then-ahead-level c =

@@ -20,7 +20,7 @@ use Rattle.labels.proofs.Comparison.{search_of_mns}
 use Rattle.offers.proofs.Reached.{front_word}
 use Rattle.offers.proofs.Narrowing.{none_reached, offers_stay, offers_grown, offers_front}
 use Rattle.offers.proofs.leaders.narrowed.Goals as goal
-use Rattle.offers.proofs.leaders.narrowed.Goals.{After-insert-first, After-smallest, Else-kind, Else-still-ne0, Joined-stay-eq0, Start}
+use Rattle.offers.proofs.leaders.narrowed.Goals.{After-insert-first, After-smallest, Else-kind, Else-still-ne0, Joined-stay-eq0, Start, then-stay-eq0, else-stay-eq0}
 
 -- the search is not MNS
 other : (c : Else-kind) → search_of c.args.kind.0 ≢ mns
@@ -44,7 +44,7 @@ pub returns-then-still-ne0 : goal.returns-then-still-ne0
 returns-then-still-ne0 c =
     let a = c.args in
     let still = c.without-still.result in
-    let word : still < 2 ^ 64 = subst (λ (x : ℕ). x < 2 ^ 64) (sym c.without-still.ensures) (word.difference-word c.ranges.stay.fits a.grown) in
+    let word : still < 2 ^ 64 = subst (λ (x : ℕ). x < 2 ^ 64) (sym c.without-still.ensures) (word.difference_word c.ranges.stay.fits a.grown) in
     let first = first_member still word (omega arith) in
     offers_stay (search_of a.kind.0) a.labels.now a.free a.stay a.grown c.requires.0 (other (goal.at.returns-then-still-ne0 c).Else-kind) still c.leading.result
     (first_below 64 (member still)) c.without-still.ensures first.0 first.1 c.leading.ensures
@@ -54,7 +54,7 @@ grew : (c : Else-still-ne0) → let a = c.args in (v : ℕ) → T (member a.stay
 grew c v t =
     let a = c.args in
     ⊎_elim (λ x. x) (λ out. absurd (word.empty_back c.if-still-ne0.false v
-    (subst (λ (b : Bool). T b) (sym (ap (λ (x : ℕ). member x v) c.without-still.ensures ∙ word.member-difference a.stay a.grown v))
+    (subst (λ (b : Bool). T b) (sym (ap (λ (x : ℕ). member x v) c.without-still.ensures ∙ word.member_difference a.stay a.grown v))
     (and_in (member a.stay v) (not (member a.grown v)) t (not_T (member a.grown v) out))))) (decided (member a.grown v))
 
 -- one that stays
@@ -64,16 +64,21 @@ one_stays s some = first_member s.args.stay s.ranges.stay.fits (omega arith)
 pub returns-then-rivals-eq0 : goal.returns-then-rivals-eq0
 returns-then-rivals-eq0 c =
     let a = c.args in
-    ⊎_elim (λ t. none_reached (search_of a.kind.0) a.labels.now a.free a.reached c.ranges.free.fits c.requires.1 (sym t.1.ensures ∙ sym t.2 ∙ c.if-rivals-eq0.true))
-    (λ t. let x = one_stays (goal.at.returns-then-rivals-eq0 c).Start t.0.left in absurd (word.empty_back (sym t.1 ∙ c.if-rivals-eq0.true) (first_below 64 (member a.stay)) (grew (goal.at.returns-then-rivals-eq0 c).Else-still-ne0 (first_below 64 (member a.stay)) x.1)))
-    c.if-stay-eq0.branch
+    elim c.if-stay-eq0.branch [
+      | then-stay-eq0 w ↦ none_reached (search_of a.kind.0) a.labels.now a.free a.reached c.ranges.free.fits c.requires.1 (sym w.common-rivals.ensures ∙ sym w.rivals-is ∙ c.if-rivals-eq0.true)
+      | else-stay-eq0 w ↦
+          let x = one_stays (goal.at.returns-then-rivals-eq0 c).Start w.if-stay-eq0.false in
+          absurd (word.empty_back (sym w.rivals-is ∙ c.if-rivals-eq0.true) (first_below 64 (member a.stay)) (grew (goal.at.returns-then-rivals-eq0 c).Else-still-ne0 (first_below 64 (member a.stay)) x.1))
+    ]
 
 -- the rivals are a word
 rivals_word : (c : Joined-stay-eq0) → c.if-stay-eq0.rivals < 2 ^ 64
 rivals_word c =
     let a = c.args in
-    ⊎_elim (λ t. subst (λ (x : ℕ). x < 2 ^ 64) (sym t.2) (front_word a.free a.reached t.1.ensures c.ranges.free.fits))
-    (λ t. subst (λ (x : ℕ). x < 2 ^ 64) (sym t.1) c.ranges.grown.fits) c.if-stay-eq0.branch
+    elim c.if-stay-eq0.branch [
+      | then-stay-eq0 w ↦ subst (λ (x : ℕ). x < 2 ^ 64) (sym w.rivals-is) (front_word a.free a.reached w.common-rivals.ensures c.ranges.free.fits)
+      | else-stay-eq0 w ↦ subst (λ (x : ℕ). x < 2 ^ 64) (sym w.rivals-is) c.ranges.grown.fits
+    ]
 
 -- the first of them
 first : (c : After-smallest) → (c.smallest.result < 64) × T (member c.if-stay-eq0.rivals c.smallest.result)
@@ -82,7 +87,7 @@ first c =
 
 -- is alone in the set
 alone : (c : After-insert-first) (v : ℕ) → member c.insert-first.result v ≡ (eqb c.smallest.result v || member 0 v)
-alone c v = ap (λ (x : ℕ). member x v) c.insert-first.ensures ∙ word.member-inserted 0 (first (goal.at.After-insert-first c).After-smallest).0 v
+alone c v = ap (λ (x : ℕ). member x v) c.insert-first.ensures ∙ word.member_inserted 0 (first (goal.at.After-insert-first c).After-smallest).0 v
 
 only : (c : After-insert-first) (v : ℕ) → T (member c.insert-first.result v) → c.smallest.result ≡ v
 only c v t =
@@ -115,7 +120,7 @@ rivals_all : (c : After-insert-first) (v : ℕ) → member (united c.insert-firs
 rivals_all c v =
     let one = c.insert-first.result in
     let rivals = c.if-stay-eq0.rivals in
-    word.member-united one rivals v
+    word.member_united one rivals v
     ∙ same_test (member one v || member rivals v) (member rivals v)
     (λ t. ⊎_elim (λ x. subst (λ (q : ℕ). T (member rivals q)) (only c v x) (first (goal.at.After-insert-first c).After-smallest).1) (λ x. x) (or_out (member one v) (member rivals v) t))
     (λ t. or_inr (member one v) (member rivals v) t)
@@ -126,11 +131,13 @@ returns c =
     let k = search_of a.kind.0 in
     let u = c.smallest.result in
     let all = united c.insert-first.result c.if-stay-eq0.rivals in
-    ⊎_elim (λ t. offers_front k a.labels.now a.free a.reached all c.leading-2.result u c.requires.1 c.requires.2
-    (λ v. rivals_all (goal.at.returns c).After-insert-first v ∙ ap (λ (x : ℕ). member x v) (t.2 ∙ t.1.ensures)) (first (goal.at.returns c).After-smallest).0
-    (subst (λ (b : Bool). T b) (sym (rivals_all (goal.at.returns c).After-insert-first u)) (first (goal.at.returns c).After-smallest).1) c.leading-2.ensures)
-    (λ t.
-    let x = one_stays (goal.at.returns c).Start t.0.left in
-    offers_grown k a.labels.now a.free a.stay a.grown c.requires.0 (other (goal.at.returns c).Else-kind) all c.leading-2.result (first_below 64 (member a.stay))
-    (λ v. rivals_all (goal.at.returns c).After-insert-first v ∙ ap (λ (y : ℕ). member y v) t.1) x.0 x.1 (grew (goal.at.returns c).Else-still-ne0) c.leading-2.ensures)
-    c.if-stay-eq0.branch
+    elim c.if-stay-eq0.branch [
+      | then-stay-eq0 w ↦
+          offers_front k a.labels.now a.free a.reached all c.leading-2.result u c.requires.1 c.requires.2
+          (λ v. rivals_all (goal.at.returns c).After-insert-first v ∙ ap (λ (x : ℕ). member x v) (w.rivals-is ∙ w.common-rivals.ensures)) (first (goal.at.returns c).After-smallest).0
+          (subst (λ (b : Bool). T b) (sym (rivals_all (goal.at.returns c).After-insert-first u)) (first (goal.at.returns c).After-smallest).1) c.leading-2.ensures
+      | else-stay-eq0 w ↦
+          let x = one_stays (goal.at.returns c).Start w.if-stay-eq0.false in
+          offers_grown k a.labels.now a.free a.stay a.grown c.requires.0 (other (goal.at.returns c).Else-kind) all c.leading-2.result (first_below 64 (member a.stay))
+          (λ v. rivals_all (goal.at.returns c).After-insert-first v ∙ ap (λ (y : ℕ). member y v) w.rivals-is) x.0 x.1 (grew (goal.at.returns c).Else-still-ne0) c.leading-2.ensures
+    ]
