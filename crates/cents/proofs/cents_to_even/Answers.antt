@@ -1,11 +1,8 @@
 -- `cents::cents_to_even` meets its contract: one less than halves up where x / 60 is halfway and that is odd, else the same.
 -- Assumes nothing.
-use mathlib.Core.Path.{◌≡◌, refl, sym, ap, ◌∙◌, subst}
-use mathlib.Core.Logic.{inl, inr}
+use mathlib.Core.Path.{◌≡◌, sym, ap, ◌∙◌}
 use Prim.Native.Nat.{ℕ, ◌-◌, ◌%◌}
 use native.Mathlib.Omega.{arith}
-use lib.Dec.{T, eqb, eqb→eq}
-use Rattle.bitset.proofs.Tests.{said_true, said_false}
 use Rattle.cents.specs.Cents.{cents_halves_up}
 use Rattle.cents.proofs.Cents.{to_even_less, to_even_same}
 use Rattle.cents.proofs.cents_to_even.Goals as goal
