@@ -11,7 +11,7 @@
 -- Assumes nothing.
 use Prim.Native.Nat.{ℕ, suc, ◌-◌, ◌≤◌, ◌<◌}
 use mathlib.Core.Path.{◌≡◌, refl, sym, ap, ap₂, ◌∙◌, subst}
-use mathlib.Core.Bool.{Bool, false, ◌||◌, or_comm, or_assoc, or_false}
+use mathlib.Core.Bool.{Bool, false, ◌||◌, or_comm, or_assoc, or-false}
 use mathlib.Core.Logic.{◌⊎◌, inl, inr}
 use mathlib.Core.List.{List, [], ◌∷◌}
 use native.Mathlib.Omega.{arith}
@@ -203,7 +203,7 @@ module _ (n : ℕ) (few : n ≤ 64) where
   pub member_made : (ls : List Line) → T (every (is_edge n) ls) → (x y : ℕ) → member (at (with_links (replicate 64 0) ls) x) y ≡ linked_by ls x y
   member_made ls edges x y =
       member_links n few (replicate 64 0) ls (length-replicate {A = ℕ} 64 0) edges x y
-      ∙ ap (λ (b : Bool). linked_by ls x y || b) (member_none x y) ∙ or_false (linked_by ls x y)
+      ∙ ap (λ (b : Bool). linked_by ls x y || b) (member_none x y) ∙ or-false (linked_by ls x y)
 
   pub same_links_same_rows : (ls ls' : List Line) → T (every (is_edge n) ls) → T (every (is_edge n) ls') → ((x y : ℕ) → linked_by ls x y ≡ linked_by ls' x y)
       → with_links (replicate 64 0) ls ≡ with_links (replicate 64 0) ls'

@@ -14,7 +14,7 @@ use native.Mathlib.Numerals.{add-one}
 use native.Mathlib.Omega.{arith}
 use lib.Dec.{T, eqb, leb-zero}
 use lib.Bits.{bit_or, bit_xor, or_lt, xor_lt}
-use lib.ListN.{length, get_or, take, set, get_or-eq_default}
+use lib.ListN.{length, get_or, take, get_or-eq_default}
 use lib.Seq.{get_or-take}
 use Rattle.bitset.specs.Below.{any_below, differ}
 use Rattle.bitset.specs.Word.{member, from_up}

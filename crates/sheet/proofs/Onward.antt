@@ -1,4 +1,4 @@
--- One line more: what the walks over the reader need of it.
+-- One line more: what the proofs of the reader need of it.
 --   width_small              a line takes at most 13 bytes
 --   sound_kept               n, m and k stay small while the next line is worth reading
 --   after_none, after_one    no line, and one more

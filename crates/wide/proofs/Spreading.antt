@@ -5,7 +5,7 @@
 --   spread_start, spread_due, spread_next, spread_end   the loop over a word begins, what is due, how it goes on, and ends
 -- Assumes nothing.
 use mathlib.Core.Path.{◌≡◌, refl, sym, ap, ap₂, ◌∙◌, subst}
-use mathlib.Core.Bool.{Bool, true, false, not, ◌&&◌, ◌||◌, or_false}
+use mathlib.Core.Bool.{Bool, true, false, not, ◌&&◌, ◌||◌, or-false}
 use mathlib.Core.List.{List}
 use Prim.Native.Nat.{ℕ, ◌+◌, ◌*◌, ◌/◌, ◌%◌, ◌<◌, ◌^◌}
 use native.Mathlib.Omega.{arith}
@@ -126,7 +126,7 @@ module _ {s : Search} {mark : Mark} {table placed labels₀ smallest₀ largest�
 
         go : (l x w r e : Bool) → (T e → T r) → (T e → T w) → ((l || (x && (w && not r))) || (e && x)) ≡ (l || (x && (w && not (not e && r))))
         go true x w r e f g = refl
-        go false x w r false f g = or_false (x && (w && not r))
+        go false x w r false f g = or-false (x && (w && not r))
         go false x w false true f g = absurd (f tt)
         go false x false true true f g = absurd (g tt)
         go false true true true true f g = refl

@@ -9,7 +9,7 @@
 --   tallied_same                      Tallied looks at the vertex's own label only
 -- Assumes nothing.
 use mathlib.Core.Path.{◌≡◌, sym, ap, ◌∙◌, subst, fun_ext}
-use mathlib.Core.Bool.{Bool, cond, ◌&&◌, ◌||◌, or_false, or_comm}
+use mathlib.Core.Bool.{Bool, cond, ◌&&◌, ◌||◌, or-false, or_comm}
 use mathlib.Core.Logic.{◌⊎◌, inl, inr}
 use mathlib.Core.List.{List}
 use Prim.Native.Nat.{ℕ, suc, ◌+◌, ◌≤◌, ◌<◌}
@@ -110,7 +110,7 @@ module _ (labels : List ℕ) (v p : ℕ) (room : length labels ≡ 4096) (vertex
   pub row_other : (u : ℕ) → u < 512 → (v ≡ u → ⊥) → row_of (with_bit labels v p) u ≡ row_of labels u
   row_other u l other = fun_ext (λ q.
       row_with_bit labels v p u q room vertex place l
-      ∙ ap (λ (x : Bool). row_of labels u q || (x && eqb p q)) (is_false (eqb v u) (λ t. other (eqb→eq v u t))) ∙ or_false (row_of labels u q))
+      ∙ ap (λ (x : Bool). row_of labels u q || (x && eqb p q)) (is_false (eqb v u) (λ t. other (eqb→eq v u t))) ∙ or-false (row_of labels u q))
 
   pub row_grown : (q : ℕ) → row_of (with_bit labels v p) v q ≡ (row_of labels v q || eqb p q)
   row_grown q = row_with_bit labels v p v q room vertex place vertex ∙ ap (λ (x : Bool). row_of labels v q || (x && eqb p q)) (is_true (eqb v v) (eqb_refl v))

@@ -1,12 +1,12 @@
 -- `admission::graph_refusal` meets its contract: each answer is given after the tests before it were tried, each on all rows.
 -- Assumes nothing.
 use mathlib.Core.List.{List}
-use mathlib.Core.Logic.{inl, inr, ⊎_elim}
+use mathlib.Core.Logic.{inl, inr}
 use mathlib.Core.Path.{refl, sym, ◌∙◌}
 use mathlib.Core.Bool.{Bool, not, ◌||◌}
 use Prim.Native.Nat.{ℕ, ◌*◌, ◌/◌, ◌%◌}
 use native.Mathlib.Omega.{arith}
-use borrow.Author.Tests.{ltb-true, ltb-false}
+use borrow.Author.Tests.{ltb-false}
 use lib.Dec.{T, eqb, ltb, ltb→lt, lt→ltb}
 use lib.ListN.{length, take, drop}
 use Rattle.bitset.proofs.Tests.{said_true, said_false}
@@ -18,42 +18,42 @@ use Rattle.admission.specs.Checked.{IsTable}
 use Rattle.admission.proofs.Outside.{outside_table, loop_table, one_way_table}
 use Rattle.admission.proofs.Tried.{refused, refused_behind, accepted_behind, five_dropped, five_tried, five_passed, uneven, too_many, sized}
 use Rattle.admission.proofs.graph_refusal.Goals as goal
-use Rattle.admission.proofs.graph_refusal.Goals.{After-struct_known-2-1, Else-bit_outside, Else-kind, Else-n-gt512, Else-self_loop}
+use Rattle.admission.proofs.graph_refusal.Goals.{Start, Else-bit_outside, Else-kind, Else-n-gt512, Else-self_loop, then-length-ne0-via-then-length-ne0, then-length-ne0-via-else-length-ne0+then-n-gt512}
 
-abbrev kind-of : After-struct_known-2-1 → ℕ
-kind-of c = c.args.kind.0
+abbrev kind_of : Start → ℕ
+kind_of c = c.args.kind.0
 
-abbrev mark_of : After-struct_known-2-1 → Mark
+abbrev mark_of : Start → Mark
 mark_of c = c.args.mark
 
-abbrev table_of : After-struct_known-2-1 → List ℕ
+abbrev table_of : Start → List ℕ
 table_of c = c.args.table.now
 
-abbrev tests : After-struct_known-2-1 → List (ℕ × Bool)
-tests c = open_tests_wide 8 (kind-of c) (mark_of c) (table_of c)
+abbrev tests : Start → List (ℕ × Bool)
+tests c = open_tests_wide 8 (kind_of c) (mark_of c) (table_of c)
 
 -- ---- the tests that do not hold
 
-known : (c : Else-kind) → T (ltb 6 (kind-of (goal.at.Else-kind c).After-struct_known-2-1)) → ⊥
-known c t = omega (arith, ltb→lt 6 (kind-of (goal.at.Else-kind c).After-struct_known-2-1) t, c.if-kind.false)
+known : (c : Else-kind) → T (ltb 6 (kind_of (goal.at.Else-kind c).Start)) → ⊥
+known c t = omega (arith, ltb→lt 6 (kind_of (goal.at.Else-kind c).Start) t, c.if-kind.false)
 
-in_size : (c : Else-n-gt512) → let table = table_of (goal.at.Else-n-gt512 c).After-struct_known-2-1 in T (not (eqb (length table % 8) 0) || ltb (64 * 8) (size_wide 8 table)) → ⊥
-in_size c = sized (table_of (goal.at.Else-n-gt512 c).After-struct_known-2-1) c.if-length-ne0.false (omega (arith, ltb-false, c.if-n-gt512.false))
+in_size : (c : Else-n-gt512) → let table = table_of (goal.at.Else-n-gt512 c).Start in T (not (eqb (length table % 8) 0) || ltb (64 * 8) (size_wide 8 table)) → ⊥
+in_size c = sized (table_of (goal.at.Else-n-gt512 c).Start) c.if-length-ne0.false (omega (arith, ltb-false, c.if-n-gt512.false))
 
-is_table : (c : Else-n-gt512) → let table = table_of (goal.at.Else-n-gt512 c).After-struct_known-2-1 in IsTable (length table / 8) table
+is_table : (c : Else-n-gt512) → let table = table_of (goal.at.Else-n-gt512 c).Start in IsTable (length table / 8) table
 is_table c = record { small = omega (arith, ltb-false, c.if-n-gt512.false); whole = omega (arith, c.if-length-ne0.false) }
 
-inside : (c : Else-bit_outside) → T (bit_outside_wide 8 (table_of (goal.at.Else-bit_outside c).After-struct_known-2-1)) → ⊥
+inside : (c : Else-bit_outside) → T (bit_outside_wide 8 (table_of (goal.at.Else-bit_outside c).Start)) → ⊥
 inside c = said_false _ (c.bit_outside.ensures ∙ sym (outside_table _)) c.if-bit_outside.false
 
-unlooped : (c : Else-self_loop) → T (self_loop_wide 8 (table_of (goal.at.Else-self_loop c).After-struct_known-2-1)) → ⊥
+unlooped : (c : Else-self_loop) → T (self_loop_wide 8 (table_of (goal.at.Else-self_loop c).Start)) → ⊥
 unlooped c = said_false _ (c.self_loop.ensures ∙ sym (loop_table _)) c.if-self_loop.false
 
-passed_3 : (c : Else-bit_outside) → Accepts (take 3 (tests (goal.at.Else-bit_outside c).After-struct_known-2-1))
+passed_3 : (c : Else-bit_outside) → Accepts (take 3 (tests (goal.at.Else-bit_outside c).Start))
 unfolding open_tests_wide
 passed_3 c = (known (goal.at.Else-bit_outside c).Else-kind, (in_size (goal.at.Else-bit_outside c).Else-n-gt512, (inside c, tt)))
 
-passed_4 : (c : Else-self_loop) → Accepts (take 4 (tests (goal.at.Else-self_loop c).After-struct_known-2-1))
+passed_4 : (c : Else-self_loop) → Accepts (take 4 (tests (goal.at.Else-self_loop c).Start))
 unfolding open_tests_wide
 passed_4 c = let earlier = passed_3 (goal.at.Else-self_loop c).Else-bit_outside in (earlier.0, (earlier.1.0, (earlier.1.1.0, (unlooped c, tt))))
 
@@ -61,14 +61,14 @@ passed_4 c = let earlier = passed_3 (goal.at.Else-self_loop c).Else-bit_outside 
 
 pub returns-then-kind : goal.returns-then-kind
 unfolding open_tests_wide number refusal_of
-returns-then-kind c = refused (tests (goal.at.returns-then-kind c).After-struct_known-2-1) 1 (inl (refl, lt→ltb 6 (kind-of (goal.at.returns-then-kind c).After-struct_known-2-1) (omega (arith, c.if-kind.true))))
+returns-then-kind c = refused (tests (goal.at.returns-then-kind c).Start) 1 (inl (refl, lt→ltb 6 (kind_of (goal.at.returns-then-kind c).Start) (omega (arith, c.if-kind.true))))
 
 pub returns-then-length-ne0 : goal.returns-then-length-ne0
 unfolding open_tests_wide number refusal_of
 returns-then-length-ne0 c =
-    let table = table_of (goal.at.returns-then-length-ne0 c).After-struct_known-2-1 in
-    refused (tests (goal.at.returns-then-length-ne0 c).After-struct_known-2-1) 2
-    (inr (known (goal.at.returns-then-length-ne0 c).Else-kind, inl (refl, ⊎_elim (λ w. uneven table w.taken) (λ w. too_many table (omega (arith, ltb-true, w.1.taken))) c.then-length-ne0.branch)))
+    let table = table_of (goal.at.returns-then-length-ne0 c).Start in
+    refused (tests (goal.at.returns-then-length-ne0 c).Start) 2
+    (inr (known (goal.at.returns-then-length-ne0 c).Else-kind, inl (refl, elim c.then-length-ne0.branch [ then-length-ne0-via-then-length-ne0 w ↦ uneven table w.if-length-ne0.true | then-length-ne0-via-else-length-ne0+then-n-gt512 w ↦ too_many table (omega (arith, w.if-n-gt512.true)) ])))
 
 pub bit_outside-requires : goal.bit_outside-requires
 bit_outside-requires c = is_table c
@@ -76,8 +76,8 @@ bit_outside-requires c = is_table c
 pub returns-then-bit_outside : goal.returns-then-bit_outside
 unfolding open_tests_wide number refusal_of
 returns-then-bit_outside c =
-    let table = table_of (goal.at.returns-then-bit_outside c).After-struct_known-2-1 in
-    refused (tests (goal.at.returns-then-bit_outside c).After-struct_known-2-1) 3
+    let table = table_of (goal.at.returns-then-bit_outside c).Start in
+    refused (tests (goal.at.returns-then-bit_outside c).Start) 3
     (inr (known (goal.at.returns-then-bit_outside c).Else-kind, inr (in_size (goal.at.returns-then-bit_outside c).Else-n-gt512, inl (refl, said_true (bit_outside_wide 8 table) (c.bit_outside.ensures ∙ sym (outside_table table)) c.if-bit_outside.true))))
 
 pub self_loop-requires : goal.self_loop-requires
@@ -86,14 +86,14 @@ self_loop-requires c = is_table (goal.at.self_loop-requires c).Else-n-gt512
 pub returns-then-self_loop : goal.returns-then-self_loop
 unfolding open_tests_wide number refusal_of
 returns-then-self_loop c =
-    let all = tests (goal.at.returns-then-self_loop c).After-struct_known-2-1 in
+    let all = tests (goal.at.returns-then-self_loop c).Start in
     refused_behind (take 3 all) (drop 3 all) 4 (passed_3 (goal.at.returns-then-self_loop c).Else-bit_outside)
     (inl (refl, said_true (self_loop_wide 8 _) (c.self_loop.ensures ∙ sym (loop_table _)) c.if-self_loop.true))
 
 pub returns-in-OneWay : goal.returns-in-OneWay
 unfolding open_tests_wide refusal_of
 returns-in-OneWay c =
-    let all = tests (goal.at.returns-in-OneWay c).After-struct_known-2-1 in
+    let all = tests (goal.at.returns-in-OneWay c).Start in
     accepted_behind (take 4 all) (drop 4 all) (passed_4 (goal.at.returns-in-OneWay c).Else-self_loop) (five_dropped _ _ c.in-OneWay.is, tt)
 
 pub one_way-requires : goal.one_way-requires
@@ -103,7 +103,7 @@ one_way-requires c =
 pub returns-then-one_way : goal.returns-then-one_way
 unfolding open_tests_wide number refusal_of
 returns-then-one_way c =
-    let all = tests (goal.at.returns-then-one_way c).After-struct_known-2-1 in
+    let all = tests (goal.at.returns-then-one_way c).Start in
     refused_behind (take 4 all) (drop 4 all) 5 (passed_4 (goal.at.returns-then-one_way c).Else-self_loop)
     (inl (
       refl,
@@ -113,6 +113,6 @@ returns-then-one_way c =
 pub returns : goal.returns
 unfolding open_tests_wide refusal_of
 returns c =
-    let all = tests (goal.at.returns c).After-struct_known-2-1 in
+    let all = tests (goal.at.returns c).Start in
     accepted_behind (take 4 all) (drop 4 all) (passed_4 (goal.at.returns c).Else-self_loop)
     (five_passed _ _ (said_false (one_way_wide 8 _) (c.one_way.ensures ∙ sym (one_way_table _)) c.if-one_way.false), tt)

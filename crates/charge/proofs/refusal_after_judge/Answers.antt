@@ -1,9 +1,10 @@
 -- `charge::refusal_after_judge` meets its contract: each answer is given after the tests before it were tried.
 -- Assumes nothing.
-use mathlib.Core.Path.{sym, ◌∙◌}
-use mathlib.Core.Bool.{Bool}
+use mathlib.Core.Path.{sym, ap, ◌∙◌}
+use mathlib.Core.Bool.{Bool, not}
 use mathlib.Core.List.{List}
 use Prim.Native.Nat.{ℕ}
+use borrow.Author.Tests.{lt-ltb, le-ltb}
 use lib.ListN.{drop}
 use Rattle.searches.specs.Answer.{number, refusal_of}
 use Rattle.checks.proofs.Tried.{Tried, tried_none, tried_one, refused_here, accepted_here}
@@ -24,11 +25,11 @@ past_1 c = tried_one (tried_none _) (sym c.malformed_minutes-malformed.ensures �
 
 past_2 : (c : Else-above) → Past 2 (goal.at.Else-above c).Start
 unfolding tests_after_judge
-past_2 c = tried_one (past_1 (goal.at.Else-above c).Else-malformed) c.if-above.false
+past_2 c = tried_one (past_1 (goal.at.Else-above c).Else-malformed) (le-ltb _ _ c.if-above.false)
 
 past_3 : (c : Else-not-passing) → Past 3 (goal.at.Else-not-passing c).Start
 unfolding tests_after_judge
-past_3 c = tried_one (past_2 (goal.at.Else-not-passing c).Else-above) c.if-not-passing.false
+past_3 c = tried_one (past_2 (goal.at.Else-not-passing c).Else-above) (ap not c.if-not-passing.false)
 
 pub returns-then-malformed : goal.returns-then-malformed
 unfolding tests_after_judge number refusal_of
@@ -36,11 +37,11 @@ returns-then-malformed c = refused_here (tried_none _) (sym c.malformed_minutes-
 
 pub returns-then-above : goal.returns-then-above
 unfolding tests_after_judge number refusal_of
-returns-then-above c = refused_here (past_1 (goal.at.returns-then-above c).Else-malformed) c.if-above.true
+returns-then-above c = refused_here (past_1 (goal.at.returns-then-above c).Else-malformed) (lt-ltb _ _ c.if-above.true)
 
 pub returns-then-not-passing : goal.returns-then-not-passing
 unfolding tests_after_judge number refusal_of
-returns-then-not-passing c = refused_here (past_2 (goal.at.returns-then-not-passing c).Else-above) c.if-not-passing.true
+returns-then-not-passing c = refused_here (past_2 (goal.at.returns-then-not-passing c).Else-above) (ap not c.if-not-passing.true)
 
 pub returns : goal.returns
 unfolding tests_after_judge number refusal_of

@@ -1,4 +1,5 @@
 -- `choice::choose` meets its contract: in MNS no entry that was passed, from the end on, is open, and in the other searches the offered vertices
+-- are at hand.
 use Prim.Native.Nat.{◌-◌}
 use lib.ListN.{length}
 use Rattle.searches.specs.Kind.{search_of}

@@ -2,7 +2,7 @@
 -- Assumes nothing.
 use Prim.Native.Nat.{ℕ, ◌<◌}
 use mathlib.Core.Path.{sym, ap, ◌∙◌, subst}
-use mathlib.Core.Logic.{inl, inr, ⊎_elim}
+use mathlib.Core.Logic.{inl, inr}
 use native.Mathlib.Omega.{arith}
 use lib.Dec.{T}
 use Rattle.bitset.specs.Word.{member}
@@ -10,7 +10,7 @@ use Rattle.bitset.proofs.Scan.{first_member, removed_less, taken_out}
 use Rattle.searches.specs.Ordering.{at}
 use Rattle.choice.proofs.Ranking.{Ranking, ranking_start, ranking_next, ranking_fits, ranking_end}
 use Rattle.choice.proofs.last_of.Goals as goal
-use Rattle.choice.proofs.last_of.Goals.{After-smallest}
+use Rattle.choice.proofs.last_of.Goals.{After-smallest, then-most-place, else-most-place}
 
 -- the smallest number of what is left is in it
 found : (c : After-smallest) → (c.smallest.result < 64) × T (member c.loop-rest.rest c.smallest.result)
@@ -34,8 +34,10 @@ loop-rest-preserved c =
     let u = c.smallest.result in
     let next = ranking_next a.tie_break.now a.ranks.now a.set c.loop-rest.invariant u (found (goal.at.loop-rest-preserved c).After-smallest).1 in
     subst (λ (x : ℕ). Ranking a.tie_break.now a.ranks.now a.set c.if-most-place.most x) (sym (taken_out c.loop-rest.rest c.without_smallest-rest.ensures c.smallest.ensures))
-    (⊎_elim (λ t. next (omega (arith, t.0.taken, t.1)) (omega (arith, t.1)) (inr t.1))
-    (λ t. next (omega (arith, t.1)) (omega (arith, t.0.left, t.1)) (inl t.1)) c.if-most-place.branch)
+    (elim c.if-most-place.branch [
+      | then-most-place w ↦ next (omega arith) (omega arith) (inr w.most-is)
+      | else-most-place w ↦ next (omega arith) (omega arith) (inl w.most-is)
+    ])
 
 pub overflow_cast-most : goal.overflow_cast-most
 overflow_cast-most c =

@@ -24,9 +24,6 @@ unfolding chordal_tests refusal_of
 last c =
     tried_first (first-tests (goal.at.In_default c).After-two_way_refusal-checked) _ (sym (ap refusal_of c.in_default.is) ∙ c.two_way_refusal-checked.ensures)
 
-pub two_way_refusal-checked-requires : goal.two_way_refusal-checked-requires
-two_way_refusal-checked-requires c = tt
-
 pub returns-in-Refused : goal.returns-in-Refused
 unfolding chordal_tests refusal_of
 returns-in-Refused c =

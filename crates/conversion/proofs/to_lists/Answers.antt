@@ -39,16 +39,16 @@ returns-in-Refused c =
     let a = c.args in
     let first = sym (ap refusal_of c.in-Refused.is) ∙ c.open_refusal-checked.ensures ∙ open_rows a.mark a.rows.now in
     let answer = rows_refused a.mark a.rows.now a.offsets.now a.neighbours.now first in
-    let whole = (answer, lists_kept a.mark a.rows.now a.offsets.now a.neighbours.now answer) in
-    record { answer = whole.0; offsets = whole.1; neighbours = whole.2 }
+    let kept = lists_kept a.mark a.rows.now a.offsets.now a.neighbours.now answer in
+    record { answer = answer; offsets = kept.0; neighbours = kept.1 }
 
 pub returns-then-offsets-rows : goal.returns-then-offsets-rows
 unfolding number refusal_of
 returns-then-offsets-rows c =
     let a = c.args in
     let answer = offsets_short a.mark a.rows.now a.offsets.now a.neighbours.now (valid (goal.at.returns-then-offsets-rows c).In_default) c.if-offsets-rows.true in
-    let whole = (answer, lists_kept a.mark a.rows.now a.offsets.now a.neighbours.now answer) in
-    record { answer = whole.0; offsets = whole.1; neighbours = whole.2 }
+    let kept = lists_kept a.mark a.rows.now a.offsets.now a.neighbours.now answer in
+    record { answer = answer; offsets = kept.0; neighbours = kept.1 }
 
 pub arc_count-requires : goal.arc_count-requires
 arc_count-requires c = small (goal.at.arc_count-requires c).In_default
@@ -58,8 +58,8 @@ unfolding number refusal_of
 returns-then-neighbours-arc_count c =
     let a = c.args in
     let answer = neighbours_short a.mark a.rows.now a.offsets.now a.neighbours.now (valid (goal.at.returns-then-neighbours-arc_count c).In_default) (omega (arith, c.if-neighbours-arc_count.true, c.arc_count.ensures)) in
-    let whole = (answer, lists_kept a.mark a.rows.now a.offsets.now a.neighbours.now answer) in
-    record { answer = whole.0; offsets = whole.1; neighbours = whole.2 }
+    let kept = lists_kept a.mark a.rows.now a.offsets.now a.neighbours.now answer in
+    record { answer = answer; offsets = kept.0; neighbours = kept.1 }
 
 pub write_lists-requires : goal.write_lists-requires
 write_lists-requires c = let long = enough (goal.at.write_lists-requires c).Else-neighbours-arc_count in (small (goal.at.write_lists-requires c).In_default, long.0, long.1)
@@ -70,5 +70,4 @@ returns c =
     let a = c.args in
     let answer = lists_fit a.mark a.rows.now a.offsets.now a.neighbours.now (valid (goal.at.returns c).In_default) (enough (goal.at.returns c).Else-neighbours-arc_count).0 (enough (goal.at.returns c).Else-neighbours-arc_count).1 in
     let left = lists_done a.mark a.rows.now a.offsets.now a.neighbours.now answer in
-    let whole = (answer, (c.write_lists.ensures.offsets ∙ left.0, c.write_lists.ensures.neighbours ∙ left.1)) in
-    record { answer = whole.0; offsets = whole.1; neighbours = whole.2 }
+    record { answer = answer; offsets = c.write_lists.ensures.offsets ∙ left.0; neighbours = c.write_lists.ensures.neighbours ∙ left.1 }

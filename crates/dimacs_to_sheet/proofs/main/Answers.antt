@@ -7,7 +7,4 @@ use Rattle.dimacs_to_sheet.proofs.main.Goals as goal
 
 -- the sheet, or the number, fits
 pub slice_bounds-output-end : goal.slice_bounds-output-end
-slice_bounds-output-end c = let wrote = c.sheet_of-length in written_fits _ _ wrote.ensures.0 wrote.ensures.1
-
--- LOST slice-aggregate-write-all-2 tie.Need-slice-aggregate-write-all-2
--- slice-aggregate-write-all-2 c = sym (length-take-le _ _ (array-share-prefix-output c.before))
+slice_bounds-output-end c = let wrote = c.sheet_of-length in written_fits _ _ wrote.ensures.output wrote.ensures.length

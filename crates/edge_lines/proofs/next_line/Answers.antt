@@ -12,19 +12,19 @@ returns-then-file-stop c =
     let found = c.line_end-stop in
     let file = c.args.file.now in
     let start = c.args.cursor.at in
-    let whole = (
-      ap capped_line (unended_said file start found.result found.ensures c.if-file-stop.true),
-      (unended_rest file start found.result found.ensures c.if-file-stop.true, (omega (arith, c.requires, c.if-file-stop.true), line_inside file start found.result found.ensures (omega (arith, c.requires)))),
-    ) in
-    record { line = whole.0; rest = whole.1; further = whole.2 }
+    record {
+      line = ap capped_line (unended_said file start found.result found.ensures c.if-file-stop.true);
+      rest = unended_rest file start found.result found.ensures c.if-file-stop.true;
+      further = (omega (arith, c.requires, c.if-file-stop.true), line_inside file start found.result found.ensures (omega (arith, c.requires)));
+    }
 
 pub returns : goal.returns
 returns c =
     let found = c.line_end-stop in
     let file = c.args.file.now in
     let start = c.args.cursor.at in
-    let whole = (
-      c.read_line.ensures ∙ ap capped_line (ended_said file start found.result found.ensures c.if-file-stop.false),
-      (ended_rest file start found.result found.ensures c.if-file-stop.false, (omega (arith, found.ensures), omega (arith, c.if-file-stop.false))),
-    ) in
-    record { line = whole.0; rest = whole.1; further = whole.2 }
+    record {
+      line = c.read_line.ensures ∙ ap capped_line (ended_said file start found.result found.ensures c.if-file-stop.false);
+      rest = ended_rest file start found.result found.ensures c.if-file-stop.false;
+      further = (omega (arith, found.ensures), omega (arith, c.if-file-stop.false));
+    }

@@ -13,17 +13,17 @@ pub returns-then-edge : goal.returns-then-edge
 unfolding bytes
 returns-then-edge c =
     let edge = c.read_pair-edge in
-    said_edge _ (sym c.begins_with.ensures ∙ c.if-begins_with.false) (sym edge.ensures.0 ∙ c.if-edge.true) edge.ensures.1.0 edge.ensures.1.1
+    said_edge _ (sym c.begins_with.ensures ∙ c.if-begins_with.false) (sym edge.ensures.sound ∙ c.if-edge.true) edge.ensures.first edge.ensures.second
 
 pub returns-then-problem : goal.returns-then-problem
 unfolding bytes
 returns-then-problem c =
     let problem = c.read_pair-problem in
-    said_problem _ (sym c.begins_with.ensures ∙ c.if-begins_with.false) (sym c.read_pair-edge.ensures.sound ∙ c.if-edge.false) (sym problem.ensures.0 ∙ c.if-problem.true)
-    problem.ensures.1.0 problem.ensures.1.1
+    said_problem _ (sym c.begins_with.ensures ∙ c.if-begins_with.false) (sym c.read_pair-edge.ensures.sound ∙ c.if-edge.false) (sym problem.ensures.sound ∙ c.if-problem.true)
+    problem.ensures.first problem.ensures.second
 
 pub returns : goal.returns
 unfolding bytes
 returns c =
     let problem = c.read_pair-problem in
-    said_other _ (sym c.begins_with.ensures ∙ c.if-begins_with.false) (sym c.read_pair-edge.ensures.sound ∙ c.if-edge.false) (sym problem.ensures.0 ∙ c.if-problem.false)
+    said_other _ (sym c.begins_with.ensures ∙ c.if-begins_with.false) (sym c.read_pair-edge.ensures.sound ∙ c.if-edge.false) (sym problem.ensures.sound ∙ c.if-problem.false)

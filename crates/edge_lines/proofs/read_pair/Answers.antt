@@ -16,14 +16,14 @@ returns c =
     let a = c.args in
     let words = a.words.now in
     let line = a.line.now in
-    let first : drop c.read_number-first.result.rest.at line ≡ behind_first words line = c.read_number-first.ensures.sound.1 in
+    let first : drop c.read_number-first.result.rest.at line ≡ behind_first words line = c.read_number-first.ensures.rest in
     let next : drop c.next.result.at line ≡ drop 1 (drop c.read_number-first.result.rest.at line) = c.next.ensures in
-    let last : drop c.read_number-second.result.rest.at line ≡ behind is_digit (drop c.next.result.at line) = c.read_number-second.ensures.sound.1 in
+    let last : drop c.read_number-second.result.rest.at line ≡ behind is_digit (drop c.next.result.at line) = c.read_number-second.ensures.rest in
     let gap = c.read_number-first.result.rest.at in
     let begin = c.next.result.at in
     let end = c.read_number-second.result.rest.at in
-    let whole = (
-      pair_test words line gap begin end first next last c.begins_with-begun.ensures c.read_number-first.ensures.sound.0 c.byte_at-spaced.ensures c.read_number-second.ensures.sound.0,
-      (c.read_number-first.ensures.value, c.read_number-second.ensures.value ∙ ap (λ (d : List ℕ). capped (value d)) (second_digits_lem words line gap begin end first next last)),
-    ) in
-    record { sound = whole.0; first = whole.1; second = whole.2 }
+    record {
+      sound = pair_test words line gap begin end first next last c.begins_with-begun.ensures c.read_number-first.ensures.sound c.byte_at-spaced.ensures c.read_number-second.ensures.sound;
+      first = c.read_number-first.ensures.value;
+      second = c.read_number-second.ensures.value ∙ ap (λ (d : List ℕ). capped (value d)) (second_digits_lem words line gap begin end first next last);
+    }

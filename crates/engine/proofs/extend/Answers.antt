@@ -26,8 +26,8 @@ returns-then-replayed-k c =
     let a = c.args in
     let k = search_of a.kind.0 in
     let r = c.replay-replayed in
-    let e = stopped_fails a.rows.now a.barred a.output.now a.k c.requires.start k r.result.count r.ensures.0 r.new.1.1.1.1.1.1.0
-    r.result.stage.free c.if-replayed-k.true r.ensures.1.1.1.0 r.ensures.1.1.0
+    let e = stopped_fails a.rows.now a.barred a.output.now a.k c.requires.start k r.result.count r.ensures.count r.new.labels
+    r.result.stage.free c.if-replayed-k.true r.ensures.labels r.ensures.free
     in record {
       answer = sym (ap (λ (x : Bool). cond {A = Option ℕ} x none (some 12)) e);
       output = sym (ap (λ (x : Bool). cond x (carry_on_without k (arcs a.rows.now) (length a.rows.now) (unbarred a.barred) a.tie_break.now a.output.now a.k ++ drop (count_below (length a.rows.now) (unbarred a.barred)) a.output.now) a.output.now) e);
@@ -43,8 +43,8 @@ fill-requires c =
       transpose = c.requires.start.transpose;
       names = c.requires.names;
       along =
-          along_ended a.rows.now a.barred a.output.now a.k c.requires.start (search_of a.kind.0) r.result.count r.ensures.0 c.if-replayed-k.false
-          r.ensures.1.1.1.0 r.ensures.1.1.1.1.0 r.ensures.1.1.1.1.1.0 r.ensures.1.0 r.ensures.1.1.0;
+          along_ended a.rows.now a.barred a.output.now a.k c.requires.start (search_of a.kind.0) r.result.count r.ensures.count c.if-replayed-k.false
+          r.ensures.labels r.ensures.smallest r.ensures.largest r.ensures.set r.ensures.free;
       room =
           omega (
             arith,
@@ -52,13 +52,13 @@ fill-requires c =
             length-take (length a.output.now - a.k) (drop a.k a.output.now),
             length-drop a.k a.output.now,
             count_le (length a.rows.now) (unbarred a.barred),
-            left_ended a.rows.now a.barred a.output.now a.k c.requires.start (search_of a.kind.0) r.result.count r.ensures.0
-                c.if-replayed-k.false r.ensures.1.1.0,
+            left_ended a.rows.now a.barred a.output.now a.k c.requires.start (search_of a.kind.0) r.result.count r.ensures.count
+                c.if-replayed-k.false r.ensures.free,
           );
       staged =
-          subst (Staged (search_of a.kind.0) r.new.1.1.1.1.1.1.0 r.new.1.1.1.1.1.1.1.1.1.0 r.result.stage)
-          (whole_ended a.rows.now a.barred a.output.now a.k c.requires.start (search_of a.kind.0) r.result.count r.ensures.0 c.if-replayed-k.false)
-          r.ensures.1.1.1.1.1.1;
+          subst (Staged (search_of a.kind.0) r.new.labels r.new.weights r.result.stage)
+          (whole_ended a.rows.now a.barred a.output.now a.k c.requires.start (search_of a.kind.0) r.result.count r.ensures.count c.if-replayed-k.false)
+          r.ensures.staged;
     }
 
 pub returns : goal.returns
@@ -68,10 +68,10 @@ returns c =
     let k = search_of a.kind.0 in
     let r = c.replay-replayed in
     let ended = c.if-replayed-k.false in
-    let p = ended_passes a.rows.now a.barred a.output.now a.k c.requires.start k r.result.count r.ensures.0 ended in
+    let p = ended_passes a.rows.now a.barred a.output.now a.k c.requires.start k r.result.count r.ensures.count ended in
     let e : is_pass (judge_without k (arcs a.rows.now) (length a.rows.now) (unbarred a.barred) a.output.now a.k) ≡ true = ap is_pass p in record {
       answer = sym (ap (λ (x : Bool). cond {A = Option ℕ} x none (some 12)) e);
-      output = filled_carried k a.rows.now a.barred a.tie_break.now a.output.now a.k c.requires r.result.count r.result.stage.free r.new.1.1.1.1.1.1.0
-          c.fill.new.tail r.ensures.0 ended r.ensures.1.1.1.0 r.ensures.1.1.0 c.fill.ensures
+      output = filled_carried k a.rows.now a.barred a.tie_break.now a.output.now a.k c.requires r.result.count r.result.stage.free r.new.labels
+          c.fill.new.tail r.ensures.count ended r.ensures.labels r.ensures.free c.fill.ensures
           ∙ sym (ap (λ (x : Bool). cond x (carry_on_without k (arcs a.rows.now) (length a.rows.now) (unbarred a.barred) a.tie_break.now a.output.now a.k ++ drop (count_below (length a.rows.now) (unbarred a.barred)) a.output.now) a.output.now) e);
     }

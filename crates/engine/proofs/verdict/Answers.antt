@@ -15,20 +15,20 @@ pub first_violation-requires : goal.first_violation-requires
 first_violation-requires c =
     let a = c.args in
     let r = c.replay-replayed in
-    fault_there a.rows.now a.barred a.ordering.now (length a.ordering.now) c.requires (search_of a.kind.0) r.result.count r.ensures.0 r.new.1.1.1.1.1.1.0
-    r.result.stage.free c.if-j-k.true r.ensures.1.1.1.0 r.ensures.1.1.0 r.ensures.1.1.1.1.1.1.weighed
+    fault_there a.rows.now a.barred a.ordering.now (length a.ordering.now) c.requires (search_of a.kind.0) r.result.count r.ensures.count r.new.labels
+    r.result.stage.free c.if-j-k.true r.ensures.labels r.ensures.free r.ensures.staged.weighed
 
 pub returns-then-j-k : goal.returns-then-j-k
 returns-then-j-k c =
     let a = c.args in
     let r = c.replay-replayed in
     c.first_violation.ensures
-    ∙ fault_judged a.rows.now a.barred a.ordering.now (length a.ordering.now) c.requires (search_of a.kind.0) r.result.count r.ensures.0
-    r.new.1.1.1.1.1.1.0 r.result.stage.free c.if-j-k.true r.ensures.1.1.1.0 r.ensures.1.1.0
+    ∙ fault_judged a.rows.now a.barred a.ordering.now (length a.ordering.now) c.requires (search_of a.kind.0) r.result.count r.ensures.count
+    r.new.labels r.result.stage.free c.if-j-k.true r.ensures.labels r.ensures.free
 
 pub returns : goal.returns
 unfolding verdict_of
 returns c =
     let a = c.args in
     let r = c.replay-replayed in
-    sym (ended_passes a.rows.now a.barred a.ordering.now (length a.ordering.now) c.requires (search_of a.kind.0) r.result.count r.ensures.0 (omega arith))
+    sym (ended_passes a.rows.now a.barred a.ordering.now (length a.ordering.now) c.requires (search_of a.kind.0) r.result.count r.ensures.count (omega arith))

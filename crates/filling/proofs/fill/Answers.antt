@@ -54,7 +54,7 @@ bounds-tail-i c =
 
 -- there is a vertex to place
 room : (c : After-choose-v)
-    →     let a = c.args in
+    → let a = c.args in
     (0 < count_below 64 (member c.loop-i.moment.free)) × (a.k + c.loop-i.i < length a.rows.now)
 room c =
     let a = c.args in
@@ -66,7 +66,7 @@ overflow_add-p c = omega (arith, (room c).1, c.requires.small)
 
 -- what is kept once the chosen vertex is placed
 next : (c : After-choose-v)
-    →     let a = c.args in
+    → let a = c.args in
     let m = c.loop-i.moment in
     let v = c.choose-v.result.0 in
     let p = a.k + c.loop-i.i in
@@ -105,12 +105,12 @@ loop-i-preserved c =
     let smallest = c.place-moment.new.smallest in
     let largest = c.place-moment.new.largest in (
       filling_next k rows a.tie_break.now a.k c.size-count.result a.labels.now a.stage.free a.tail.now v labels stage.free c.loop-i.invariant.0
-          c.loop-i-test.true (omega (arith, c.requires.room, c.size-count.ensures)) c.choose-v.ensures e.1.1.0 e.1.0,
-      along_same rows (next (goal.at.loop-i-preserved c).After-choose-v) (let z : p + 1 ≡ a.k + (c.loop-i.i + 1) = omega arith in z) e.1.1.0 e.1.1.1.0 e.1.1.1.1.0 e.0 e.1.0,
-      subst (Staged k labels c.place-moment.new.weights stage) (let z : p + 1 ≡ a.k + (c.loop-i.i + 1) = omega arith in z) e.1.1.1.1.1,
+          c.loop-i-test.true (omega (arith, c.requires.room, c.size-count.ensures)) c.choose-v.ensures e.labels e.free,
+      along_same rows (next (goal.at.loop-i-preserved c).After-choose-v) (let z : p + 1 ≡ a.k + (c.loop-i.i + 1) = omega arith in z) e.labels e.smallest e.largest e.set e.free,
+      subst (Staged k labels c.place-moment.new.weights stage) (let z : p + 1 ≡ a.k + (c.loop-i.i + 1) = omega arith in z) e.staged,
       let taken = along_chosen k rows c.requires.small a.tie_break.now c.requires.names c.loop-i.invariant.1 (room (goal.at.loop-i-preserved c).After-choose-v).0 c.choose-v.ensures in
           let less = removed_size c.loop-i.moment.free v (omega (arith, taken.0, c.requires.small)) taken.1 in
-          let size : count_below 64 (member stage.free) ≡ count_below 64 (member (removed c.loop-i.moment.free v)) = ap (λ (x : ℕ). count_below 64 (member x)) e.1.0 in
+          let size : count_below 64 (member stage.free) ≡ count_below 64 (member (removed c.loop-i.moment.free v)) = ap (λ (x : ℕ). count_below 64 (member x)) e.free in
           let z : c.loop-i.i + 1 + count_below 64 (member stage.free) ≡ c.size-count.result = omega (arith, size, less, c.loop-i.invariant.3) in
           z,
     )

@@ -25,5 +25,5 @@ returns c =
     let b = a.sheet.now in
     let out = a.output.now in record {
       output = c.write_judgement-judged.ensures.output ∙ sym (ap (λ (x : Bool). cond x out (sets out 0 (judgement b))) (le-ltb (length out) 147 c.if-output-lt147.false));
-      length = c.write_judgement-judged.ensures.length.0 ∙ sym (ap (λ (x : Bool). cond x 0 (length (judgement b))) (le-ltb (length out) 147 c.if-output-lt147.false));
+      length = c.write_judgement-judged.ensures.length ∙ sym (ap (λ (x : Bool). cond x 0 (length (judgement b))) (le-ltb (length out) 147 c.if-output-lt147.false));
     }

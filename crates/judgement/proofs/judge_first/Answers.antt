@@ -15,16 +15,19 @@ returns-then-bytes-count c =
     let written = c.write_judgement in
     let a = c.args in
     let all = sym (take_all a.count a.bytes.now c.if-bytes-count.true) in
-    let whole = (
-      written.ensures.0 ∙ ap (λ (b : List ℕ). sets a.output.now 0 (judgement b)) all,
-      (written.ensures.1.0 ∙ ap (λ (b : List ℕ). length (judgement b)) all, written.ensures.1.1 ∙ ap stopped_in all),
-    ) in
-    record { output = whole.0; length = whole.1; line = whole.2 }
+    record {
+      output = written.ensures.output ∙ ap (λ (b : List ℕ). sets a.output.now 0 (judgement b)) all;
+      length = written.ensures.length ∙ ap (λ (b : List ℕ). length (judgement b)) all;
+      line = written.ensures.line ∙ ap stopped_in all;
+    }
 
 pub slice_bounds-write_judgement-end : goal.slice_bounds-write_judgement-end
 slice_bounds-write_judgement-end c = sym (length-take-le _ _ (omega (arith, c.if-bytes-count.false)))
 
 pub returns : goal.returns
 returns c = let written = c.write_judgement-2 in
-    let whole = (written.ensures.0, (written.ensures.1.0, written.ensures.1.1)) in
-    record { output = whole.0; length = whole.1; line = whole.2 }
+    record {
+      output = written.ensures.output;
+      length = written.ensures.length;
+      line = written.ensures.line;
+    }

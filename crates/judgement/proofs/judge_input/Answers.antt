@@ -23,11 +23,8 @@ returns c =
     let a = c.args in
     let e = c.judge_first.ensures in
     let whole : (b : List ℕ) → ReadInto a.input.now a.count b → take a.count a.input.now ≡ take (suc longest) b = λ b held. held.prefix ∙ ap (λ (n : ℕ). take n b) (room c) in
-    let whole = (
-      λ b held. e.0 ∙ ap (λ (x : List ℕ). sets a.output.now 0 (judgement x)) (whole b held) ∙ ap (λ (x : List ℕ). sets a.output.now 0 x) (cut_judged b),
-      (
-        λ b held. e.1.0 ∙ ap (λ (x : List ℕ). length (judgement x)) (whole b held) ∙ ap length (cut_judged b),
-        λ b held. e.1.1 ∙ ap stopped_in (whole b held) ∙ cut_stopped b,
-      ),
-    ) in
-    record { output = whole.0; length = whole.1; line = whole.2 }
+    record {
+      output = λ b held. e.output ∙ ap (λ (x : List ℕ). sets a.output.now 0 (judgement x)) (whole b held) ∙ ap (λ (x : List ℕ). sets a.output.now 0 x) (cut_judged b);
+      length = λ b held. e.length ∙ ap (λ (x : List ℕ). length (judgement x)) (whole b held) ∙ ap length (cut_judged b);
+      line = λ b held. e.line ∙ ap stopped_in (whole b held) ∙ cut_stopped b;
+    }

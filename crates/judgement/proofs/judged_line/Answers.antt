@@ -18,8 +18,8 @@ returns-in-Passes c =
     let e = c.line_of_two in
     let a = c.args in
     let is = c.in-Passes.is in record {
-      output = e.ensures.0 ∙ ap (λ (j : Judgement). sets a.output.now a.at (judged_line a.kind (verdict_of j))) (sym is);
-      at = e.ensures.1 ∙ ap (λ (j : Judgement). a.at + length (judged_line a.kind (verdict_of j))) (sym is);
+      output = e.ensures.output ∙ ap (λ (j : Judgement). sets a.output.now a.at (judged_line a.kind (verdict_of j))) (sym is);
+      at = e.ensures.at ∙ ap (λ (j : Judgement). a.at + length (judged_line a.kind (verdict_of j))) (sym is);
     }
 
 pub returns-in-Fails : goal.returns-in-Fails
@@ -28,8 +28,8 @@ returns-in-Fails c =
     let e = c.line_of_five in
     let a = c.args in
     let is = c.in-Fails.is in record {
-      output = e.ensures.0 ∙ ap (λ (j : Judgement). sets a.output.now a.at (judged_line a.kind (verdict_of j))) (sym is);
-      at = e.ensures.1 ∙ ap (λ (j : Judgement). a.at + length (judged_line a.kind (verdict_of j))) (sym is);
+      output = e.ensures.output ∙ ap (λ (j : Judgement). sets a.output.now a.at (judged_line a.kind (verdict_of j))) (sym is);
+      at = e.ensures.at ∙ ap (λ (j : Judgement). a.at + length (judged_line a.kind (verdict_of j))) (sym is);
     }
 
 pub returns-in-Refused : goal.returns-in-Refused
@@ -38,6 +38,6 @@ returns-in-Refused c =
     let e = c.line_of_one in
     let a = c.args in
     let is = c.in-Refused.is in record {
-      output = e.ensures.0 ∙ ap (λ (x : ℕ). sets a.output.now a.at (line (x ∷ []))) c.number.ensures ∙ ap (λ (j : Judgement). sets a.output.now a.at (judged_line a.kind (verdict_of j))) (sym is);
-      at = e.ensures.1 ∙ ap (λ (j : Judgement). a.at + length (judged_line a.kind (verdict_of j))) (sym is);
+      output = e.ensures.output ∙ ap (λ (x : ℕ). sets a.output.now a.at (line (x ∷ []))) c.number.ensures ∙ ap (λ (j : Judgement). sets a.output.now a.at (judged_line a.kind (verdict_of j))) (sym is);
+      at = e.ensures.at ∙ ap (λ (j : Judgement). a.at + length (judged_line a.kind (verdict_of j))) (sym is);
     }

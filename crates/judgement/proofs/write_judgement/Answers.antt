@@ -25,17 +25,17 @@ returns-in-Refused c =
     let args = c.args in
     let b = args.sheet.now in
     let out = args.output.now in
-    let told = sym (ap refusal_of c.in-Refused.is) ∙ c.read-reading.ensures.answer.0 in
-    let whole = (
-      c.line_of_one-length.ensures.output ∙ ap (λ (x : ℕ). sets out 0 (line (x ∷ []))) c.number.ensures ∙ ap (λ (x : Option ℕ). sets out 0 (judged_unless x b)) told,
-      (c.line_of_one-length.ensures.at ∙ ap (λ (x : Option ℕ). length (judged_unless x b)) told, c.read-reading.ensures.answer.1),
-    ) in
-    record { output = whole.0; length = whole.1; line = whole.2 }
+    let told = sym (ap refusal_of c.in-Refused.is) ∙ c.read-reading.ensures.answer in
+    record {
+      output = c.line_of_one-length.ensures.output ∙ ap (λ (x : ℕ). sets out 0 (line (x ∷ []))) c.number.ensures ∙ ap (λ (x : Option ℕ). sets out 0 (judged_unless x b)) told;
+      length = c.line_of_one-length.ensures.at ∙ ap (λ (x : Option ℕ). length (judged_unless x b)) told;
+      line = c.read-reading.ensures.line;
+    }
 
 -- what was read
 accepted : (c : In_default) → none ≡ read_answer c.args.sheet.now
 unfolding refusal_of
-accepted c = sym (ap refusal_of c.in_default.is) ∙ c.read-reading.ensures.answer.0
+accepted c = sym (ap refusal_of c.in_default.is) ∙ c.read-reading.ensures.answer
 
 held_is : (c : In_default) → c.read-reading.result.held ≡ held_unless none c.args.sheet.now
 unfolding held_in
@@ -86,11 +86,8 @@ returns c =
     let b = c.args.sheet.now in
     let out = c.args.output.now in
     let read-so = lent (goal.at.returns c).In_default in
-    let whole = (
-      c.judged_lines-length.ensures.output ∙ ap₂ (λ (r w : List ℕ). sets out 0 (judged_lines r w 7)) read-so.0 read-so.1 ∙ ap (λ (x : Option ℕ). sets out 0 (judged_unless x b)) (accepted (goal.at.returns c).In_default),
-      (
-        c.judged_lines-length.ensures.at ∙ ap₂ (λ (r w : List ℕ). length (judged_lines r w 7)) read-so.0 read-so.1 ∙ ap (λ (x : Option ℕ). length (judged_unless x b)) (accepted (goal.at.returns c).In_default),
-        c.read-reading.ensures.answer.1,
-      ),
-    ) in
-    record { output = whole.0; length = whole.1; line = whole.2 }
+    record {
+      output = c.judged_lines-length.ensures.output ∙ ap₂ (λ (r w : List ℕ). sets out 0 (judged_lines r w 7)) read-so.0 read-so.1 ∙ ap (λ (x : Option ℕ). sets out 0 (judged_unless x b)) (accepted (goal.at.returns c).In_default);
+      length = c.judged_lines-length.ensures.at ∙ ap₂ (λ (r w : List ℕ). length (judged_lines r w 7)) read-so.0 read-so.1 ∙ ap (λ (x : Option ℕ). length (judged_unless x b)) (accepted (goal.at.returns c).In_default);
+      line = c.read-reading.ensures.line;
+    }

@@ -12,7 +12,7 @@ use Rattle.lines.proofs.next_line.Goals.{Else-good-content, Else-not-parsed}
 -- ---- the tests in their order
 
 behind_links_lem : (c : Else-good-content)
-    →     AtPlaces c.args.sheet.now c.args.at c.args.parsed
+    → AtPlaces c.args.sheet.now c.args.at c.args.parsed
 behind_links_lem c =
     place_due c.args.sheet.now c.args.at c.args.parsed c.if-not-parsed.false c.if-good-eq0.false c.if-good-content.false
 

@@ -1,7 +1,7 @@
 -- `minutes::minutes_of` meets its contract: each turn adds what its position comes to.
 -- Assumes nothing.
 use mathlib.Core.Path.{◌∙◌, ap}
-use Prim.Native.Nat.{ℕ, ◌+◌, ◌-◌, ◌≤◌}
+use Prim.Native.Nat.{ℕ, ◌+◌, ◌≤◌}
 use native.Mathlib.Omega.{arith}
 use Rattle.searches.specs.Ordering.{arcs, at}
 use Rattle.minutes.proofs.Adding.{Added, added_start, added_more, added_all, added_bounded}
@@ -13,7 +13,7 @@ loop-p-init c = added_start _ _ _
 
 -- the total after one position more
 added : (c : After-jump_minutes-jump)
-    →     let a = c.args in
+    → let a = c.args in
     Added (arcs a.rows.now) a.ordering.now a.minutes.now (c.loop-p.p + 1)
     (c.loop-p.total + c.minutes_at-own.result + c.jump_minutes-jump.result)
 added c =

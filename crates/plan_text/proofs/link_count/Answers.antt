@@ -1,14 +1,13 @@
 -- `plan_text::link_count` meets its contract: each turn looks at one number more.
 -- Assumes nothing.
 use mathlib.Core.Path.{sym, subst}
-use mathlib.Core.Logic.{⊎_elim}
 use Prim.Native.Nat.{ℕ, ◌+◌, ◌-◌, ◌<◌}
 use native.Mathlib.Omega.{arith}
 use Rattle.bitset.proofs.Tests.{said_true, said_false}
 use Rattle.sheet.specs.Written.{is_link}
 use Rattle.plan_text.proofs.Writing.{Counting, counting_start, counting_few, counting_link, counting_other, counting_end}
 use Rattle.plan_text.proofs.link_count.Goals as goal
-use Rattle.plan_text.proofs.link_count.Goals.{In-loop-c}
+use Rattle.plan_text.proofs.link_count.Goals.{In-loop-c, then-is_link, else-is_link}
 
 pub overflow_mul-c-end : goal.overflow_mul-c-end
 overflow_mul-c-end c = omega (arith, c.requires)
@@ -36,14 +35,14 @@ pub loop-c-preserved : goal.loop-c-preserved
 loop-c-preserved c =
     let rows = c.args.rows.now in
     let is = is_link rows c.loop-c.c in
-    ⊎_elim
-    (λ x.
-    subst (λ (m : ℕ). Counting rows m (c.loop-c.c + 1)) (sym x.1)
-    (counting_link c.loop-c.invariant c.loop-c-test.true (said_true is c.is_link.ensures x.0.taken)))
-    (λ x.
-    subst (λ (m : ℕ). Counting rows m (c.loop-c.c + 1)) (sym x.1)
-    (counting_other c.loop-c.invariant c.loop-c-test.true (said_false is c.is_link.ensures x.0.left)))
-    c.if-is_link.branch
+    elim c.if-is_link.branch [
+      then-is_link w ↦
+          subst (λ (m : ℕ). Counting rows m (c.loop-c.c + 1)) (sym w.count-is)
+          (counting_link c.loop-c.invariant c.loop-c-test.true (said_true is c.is_link.ensures w.if-is_link.true))
+      | else-is_link w ↦
+          subst (λ (m : ℕ). Counting rows m (c.loop-c.c + 1)) (sym w.count-is)
+          (counting_other c.loop-c.invariant c.loop-c-test.true (said_false is c.is_link.ensures w.if-is_link.false))
+    ]
 
 pub returns : goal.returns
 returns c = counting_end c.loop-c.invariant c.loop-c-test.false

@@ -2,7 +2,6 @@
 -- Assumes nothing.
 use mathlib.Core.Path.{◌≡◌, ap, ◌∙◌}
 use mathlib.Core.List.{List}
-use mathlib.Core.Logic.{⊎_elim}
 use Prim.Native.Nat.{ℕ, ◌+◌, ◌-◌, ◌≤◌, ◌<◌}
 use native.Mathlib.Omega.{arith}
 use lib.ListN.{length, length-append}
@@ -14,7 +13,7 @@ use Rattle.plan_text.specs.Text.{head_text, link_text, plan_text}
 use Rattle.plan_text.proofs.Texts.{vertices_few, links_most, text_room}
 use Rattle.plan_text.proofs.Writing.{piece_room, listing_start, listing_room, listing_link, listing_other, listing_length, listing_end}
 use Rattle.plan_text.proofs.write_plan.Goals as goal
-use Rattle.plan_text.proofs.write_plan.Goals.{After-link_count, After-write_head-at, At-loop-c, In-loop-c, Start}
+use Rattle.plan_text.proofs.write_plan.Goals.{After-link_count, After-write_head-at, At-loop-c, In-loop-c, Start, then-is_link, else-is_link}
 
 -- at most 64 vertices, and the whole text fits
 few : (s : Start) → length s.args.rows.now ≤ 64
@@ -98,11 +97,13 @@ loop-c-smaller c = omega (arith, c.loop-c-test.true)
 pub loop-c-preserved : goal.loop-c-preserved
 loop-c-preserved c =
     let is = is_link (rows_of (goal.at.loop-c-preserved c).At-loop-c) c.loop-c.c in
-    ⊎_elim
-    (λ x.
-    listing_link _ _ _ _ c.loop-c.invariant c.loop-c-test.true (said_true is c.is_link.ensures x.0.taken) (x.5 ∙ x.2.ensures.0) (x.6 ∙ x.2.ensures.1))
-    (λ x. listing_other _ _ _ _ c.loop-c.invariant c.loop-c-test.true (said_false is c.is_link.ensures x.0.left) x.1 x.2)
-    c.if-is_link.branch
+    elim c.if-is_link.branch [
+      then-is_link w ↦
+          listing_link _ _ _ _ c.loop-c.invariant c.loop-c-test.true (said_true is c.is_link.ensures w.if-is_link.true)
+          (w.output-is ∙ w.write_link-at.ensures.output) (w.at-is ∙ w.write_link-at.ensures.end)
+      | else-is_link w ↦
+          listing_other _ _ _ _ c.loop-c.invariant c.loop-c-test.true (said_false is c.is_link.ensures w.if-is_link.false) w.output-is w.at-is
+    ]
 
 pub shape_of-output : goal.shape_of-output
 shape_of-output c =

@@ -1,6 +1,6 @@
 -- `plans::grown` reads and writes rows that are there: the point before u is smaller.
 -- Assumes nothing.
-use Prim.Native.Nat.{◌<◌, ◌-◌, ◌/◌, ◌%◌}
+use Prim.Native.Nat.{◌<◌, ◌/◌, ◌%◌}
 use native.Mathlib.Nat.{mod-lt}
 use native.Mathlib.Omega.{arith}
 use Rattle.plans.proofs.grown.Goals as goal

@@ -1,8 +1,10 @@
 -- `route::refusal_after_bfs` meets its contract: each answer is given after the tests before it were tried.
 -- Assumes nothing.
-use mathlib.Core.Bool.{Bool}
+use mathlib.Core.Path.{ap}
+use mathlib.Core.Bool.{Bool, not}
 use mathlib.Core.List.{List}
 use Prim.Native.Nat.{ℕ}
+use borrow.Author.Tests.{lt-ltb, le-ltb}
 use lib.ListN.{drop}
 use Rattle.searches.specs.Answer.{number, refusal_of}
 use Rattle.checks.proofs.Tried.{Tried, tried_none, tried_one, refused_here, accepted_here}
@@ -20,11 +22,11 @@ Past i s = Tried (tests s) (drop i (tests s))
 
 pub returns-then-not-passing : goal.returns-then-not-passing
 unfolding tests_after_bfs number refusal_of
-returns-then-not-passing c = refused_here (tried_none _) c.if-not-passing.true
+returns-then-not-passing c = refused_here (tried_none _) (ap not c.if-not-passing.true)
 
 past_1 : (c : Else-not-passing) → Past 1 (goal.at.Else-not-passing c).Start
 unfolding tests_after_bfs
-past_1 c = tried_one (tried_none _) c.if-not-passing.false
+past_1 c = tried_one (tried_none _) (ap not c.if-not-passing.false)
 
 pub returns-then-ordering-position : goal.returns-then-ordering-position
 unfolding tests_after_bfs number refusal_of
@@ -36,11 +38,11 @@ past_2 c = tried_one (past_1 (goal.at.Else-ordering-position c).Else-not-passing
 
 pub returns-then-short : goal.returns-then-short
 unfolding tests_after_bfs number refusal_of
-returns-then-short c = refused_here (past_2 (goal.at.returns-then-short c).Else-ordering-position) c.if-short.true
+returns-then-short c = refused_here (past_2 (goal.at.returns-then-short c).Else-ordering-position) (lt-ltb _ _ c.if-short.true)
 
 past_3 : (c : Else-short) → Past 3 (goal.at.Else-short c).Start
 unfolding tests_after_bfs
-past_3 c = tried_one (past_2 (goal.at.Else-short c).Else-ordering-position) c.if-short.false
+past_3 c = tried_one (past_2 (goal.at.Else-short c).Else-ordering-position) (le-ltb _ _ c.if-short.false)
 
 pub returns : goal.returns
 unfolding tests_after_bfs number refusal_of

@@ -35,9 +35,8 @@ replay-replayed-requires c =
 pub first_violation-requires : goal.first_violation-requires
 first_violation-requires c =
     let r = c.replay-replayed in
-    let there =
-    fault_there (rows_of (goal.at.first_violation-requires c).Start) c.args.barred (walk_of (goal.at.first_violation-requires c).Start) (length (walk_of (goal.at.first_violation-requires c).Start)) c.requires.judgeable (search_of c.args.kind.0) r.result.count r.ensures.0
-    r.new.1.1.1.1.1.0 r.result.stage.free c.if-j-k.true r.ensures.1.1.0 r.ensures.1.0 r.ensures.1.1.1.weighed
+    let there = fault_there (rows_of (goal.at.first_violation-requires c).Start) c.args.barred (walk_of (goal.at.first_violation-requires c).Start) (length (walk_of (goal.at.first_violation-requires c).Start)) c.requires.judgeable (search_of c.args.kind.0) r.result.count r.ensures.count
+    r.new.labels r.result.stage.free c.if-j-k.true r.ensures.labels r.ensures.free r.ensures.staged.weighed
     in
     (record { layout = c.requires.layout; searchable = there.0 }, there.1)
 
@@ -45,12 +44,12 @@ pub returns-then-j-k : goal.returns-then-j-k
 returns-then-j-k c =
     let r = c.replay-replayed in
     c.first_violation.ensures
-    ∙ fault_judged (rows_of (goal.at.returns-then-j-k c).Start) c.args.barred (walk_of (goal.at.returns-then-j-k c).Start) (length (walk_of (goal.at.returns-then-j-k c).Start)) c.requires.judgeable (search_of c.args.kind.0) r.result.count r.ensures.0
-    r.new.1.1.1.1.1.0 r.result.stage.free c.if-j-k.true r.ensures.1.1.0 r.ensures.1.0
+    ∙ fault_judged (rows_of (goal.at.returns-then-j-k c).Start) c.args.barred (walk_of (goal.at.returns-then-j-k c).Start) (length (walk_of (goal.at.returns-then-j-k c).Start)) c.requires.judgeable (search_of c.args.kind.0) r.result.count r.ensures.count
+    r.new.labels r.result.stage.free c.if-j-k.true r.ensures.labels r.ensures.free
     ∙ same (goal.at.returns-then-j-k c).Start
 
 pub returns : goal.returns
 unfolding verdict_of
 returns c =
     let r = c.replay-replayed in
-    sym (sym (same (goal.at.returns c).Start) ∙ ended_passes (rows_of (goal.at.returns c).Start) c.args.barred (walk_of (goal.at.returns c).Start) (length (walk_of (goal.at.returns c).Start)) c.requires.judgeable (search_of c.args.kind.0) r.result.count r.ensures.0 (omega arith))
+    sym (sym (same (goal.at.returns c).Start) ∙ ended_passes (rows_of (goal.at.returns c).Start) c.args.barred (walk_of (goal.at.returns c).Start) (length (walk_of (goal.at.returns c).Start)) c.requires.judgeable (search_of c.args.kind.0) r.result.count r.ensures.count (omega arith))

@@ -1,20 +1,14 @@
 -- `tables::count_in` meets its contract: the counts of the words in common.
 -- Assumes nothing.
 use mathlib.Core.Path.{◌≡◌, refl, ap, ◌∙◌}
-use mathlib.Core.Bool.{Bool, ◌&&◌}
-use mathlib.Core.List.{List}
 use Prim.Native.Nat.{ℕ, ◌*◌, ◌-◌}
 use native.Mathlib.Omega.{arith}
 use Rattle.bitset.specs.Below.{count_below}
 use Rattle.bitset.specs.Word.{member}
 use Rattle.bitset.proofs.Count.{count_le}
-use Rattle.searches.specs.Table.{arcs_wide}
-use Rattle.tables.specs.Rows.{in_set}
 use Rattle.tables.proofs.Words.{both_word, count_here}
+use Rattle.tables.proofs.count_in.Invariants.{both}
 use Rattle.tables.proofs.count_in.Goals as goal
-
-abbrev both : List ℕ → ℕ → List ℕ → ℕ → Bool
-both table v set u = arcs_wide 8 table v u && in_set set u
 
 pub loop-i-init : goal.loop-i-init
 unfolding count_below

@@ -16,7 +16,7 @@ loop-i-init c = passed_start _ _
 
 -- what a turn says
 turn : (c : After-smallest-q)
-    →     let a = c.args in
+    → let a = c.args in
     FirstHere 512 (only (arcs_wide 8 a.labels.now a.c) (arcs_wide 8 a.labels.now a.b)) c.loop-i.i c.smallest-q.result
 turn c =
     let i = c.loop-i.i in

@@ -15,7 +15,7 @@ loop-passed-init c = (record { none = λ j l h t. omega arith }, omega arith)
 
 -- what a turn says
 turn : (c : After-past_largest-q)
-    →     let a = c.args in
+    → let a = c.args in
     PastHere 512 (only (arcs_wide 8 a.labels.now a.c) (arcs_wide 8 a.labels.now a.b)) (8 - (c.loop-passed.passed + 1)) c.past_largest-q.result
 turn c =
     let i : ℕ = 8 - (c.loop-passed.passed + 1) in

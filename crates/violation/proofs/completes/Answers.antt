@@ -3,7 +3,7 @@
 use Prim.Native.Nat.{ℕ}
 use mathlib.Core.Path.{◌≡◌, ap, ◌∙◌}
 use lib.ListN.{get_or}
-use Rattle.bitset.proofs.Tests.{not_true, not_false, said_true}
+use Rattle.bitset.proofs.Tests.{said_true}
 use Rattle.bitset.proofs.Word.{member_below}
 use Rattle.searches.specs.Kind.{search_of}
 use Rattle.labels.specs.Words.{profile_of, unexcused_in}
@@ -16,12 +16,12 @@ pub returns-then-not-contains : goal.returns-then-not-contains
 returns-then-not-contains c =
     let a = c.args in
     let r = c.contains in
-    completes_outside (search_of a.kind.0) a.labels.now a.front a.i.0 a.mine.label a.c.0 r.ensures (not_true r.result c.if-not-contains.true)
+    completes_outside (search_of a.kind.0) a.labels.now a.front a.i.0 a.mine.label a.c.0 r.ensures c.if-not-contains.true
 
 pub profile_of-requires : goal.profile_of-requires
 profile_of-requires c =
     let r = c.contains in
-    member_below 64 c.ranges.front.fits c.args.c.0 (said_true _ r.ensures (not_false r.result c.if-not-contains.false))
+    member_below 64 c.ranges.front.fits c.args.c.0 (said_true _ r.ensures c.if-not-contains.false)
 
 -- what was looked at of the vertex is the profile of its label
 made : (c : After-profile_of)
@@ -40,6 +40,6 @@ returns c =
     let a = c.args in
     let s = search_of a.kind.0 in
     let r = c.contains in
-    completes_inside s a.labels.now a.front a.i.0 a.mine.label a.c.0 r.ensures (not_false r.result c.if-not-contains.false)
+    completes_inside s a.labels.now a.front a.i.0 a.mine.label a.c.0 r.ensures c.if-not-contains.false
     (c.is_unexcused.ensures
     ∙ ap (λ (x : ℕ). unexcused_in s a.i.0 x a.mine.label) (label_of s (get_or a.labels.now a.c.0 0) (made (goal.at.returns c).After-profile_of)))

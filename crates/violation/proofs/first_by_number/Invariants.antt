@@ -1,4 +1,5 @@
 -- `violation::first_by_number` meets its contract: no number that was taken out of the front so far completes a violation. The measure
+-- is the word that is left.
 use lib.ListN.{get_or}
 use Rattle.bitset.proofs.Scan.{Scanned}
 use Rattle.searches.specs.Kind.{search_of}

@@ -48,7 +48,7 @@ first_by_number-c-requires c =
 
 -- what the search by number says of position i
 starts : (c : After-first_by_number-c)
-    →     let a = c.args in
+    → let a = c.args in
     let test = first_in (search_of a.kind.0) a.rows.now a.ordering.now a.labels.now a.free a.j.0 a.k c.loop-i.i in
     (c.first_by_number-c.result.0 < 64 → T test) × (64 ≤ c.first_by_number-c.result.0 → T test → ⊥)
 starts c =

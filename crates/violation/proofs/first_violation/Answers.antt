@@ -33,7 +33,7 @@ profile_of-mine-requires c =
 
 -- what was looked at of the vertex is the profile of its label
 made : (c : After-profile_of-mine)
-    →     let a = c.args in
+    → let a = c.args in
     c.profile_of-mine.result ≡ profile_of (search_of a.kind.0) (get_or a.labels.now c.vertex_at-b.result.0 0)
 made c =
     profile_kept (search_of c.args.kind.0) c.requires.0.weighed c.vertex_at-b.result.0 c.profile_of-mine.ensures

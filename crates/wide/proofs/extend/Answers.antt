@@ -19,7 +19,7 @@ unfolding refusal_of number
 returns-then-start-k c =
     let a = c.args in
     let r = c.replay-start in
-    let e = stopped_fails (search_of a.kind.0) (arcs_wide 8 a.table.now) a.n a.output.now a.k c.requires.2 r.result r.ensures.0 c.if-start-k.true in
+    let e = stopped_fails (search_of a.kind.0) (arcs_wide 8 a.table.now) a.n a.output.now a.k c.requires.2 r.result r.ensures.count c.if-start-k.true in
     record {
       answer = sym (ap (λ (x : Bool). cond {A = Option ℕ} x none (some 12)) e);
       output = sym (ap (λ (x : Bool). cond x (carry_on (search_of a.kind.0) (arcs_wide 8 a.table.now) a.n a.tie_break.now a.output.now a.k ++ drop a.n a.output.now) a.output.now) e);
@@ -29,17 +29,17 @@ pub fill-requires : goal.fill-requires
 fill-requires c =
     let a = c.args in
     let r = c.replay-start in
-    (take a.k a.output.now, begun_ended (search_of a.kind.0) a.mark a.table.now a.n a.tie_break.now a.output.now a.k c.requires.2 c.requires.1 c.requires.3 c.requires.0 r.ensures.0 c.if-start-k.false r.ensures.1)
+    (take a.k a.output.now, begun_ended (search_of a.kind.0) a.mark a.table.now a.n a.tie_break.now a.output.now a.k c.requires.2 c.requires.1 c.requires.3 c.requires.0 r.ensures.count c.if-start-k.false r.ensures.staged)
 
 pub returns : goal.returns
 unfolding refusal_of is_pass
 returns c =
     let a = c.args in
     let r = c.replay-start in
-    let p = ended_passes (search_of a.kind.0) (arcs_wide 8 a.table.now) a.n a.output.now a.k c.requires.2 r.result r.ensures.0 c.if-start-k.false in
+    let p = ended_passes (search_of a.kind.0) (arcs_wide 8 a.table.now) a.n a.output.now a.k c.requires.2 r.result r.ensures.count c.if-start-k.false in
     let e : is_pass (judge (search_of a.kind.0) (arcs_wide 8 a.table.now) a.n a.output.now a.k) ≡ true = ap is_pass p in record {
       answer = sym (ap (λ (x : Bool). cond {A = Option ℕ} x none (some 12)) e);
       output = filled_carried (search_of a.kind.0) a.mark a.table.now a.n a.tie_break.now a.output.now a.k c.requires.2 c.requires.1 c.requires.3 p
-          (c.fill.ensures (take a.k a.output.now) (begun_ended (search_of a.kind.0) a.mark a.table.now a.n a.tie_break.now a.output.now a.k c.requires.2 c.requires.1 c.requires.3 c.requires.0 r.ensures.0 c.if-start-k.false r.ensures.1))
+          (c.fill.ensures (take a.k a.output.now) (begun_ended (search_of a.kind.0) a.mark a.table.now a.n a.tie_break.now a.output.now a.k c.requires.2 c.requires.1 c.requires.3 c.requires.0 r.ensures.count c.if-start-k.false r.ensures.staged))
           ∙ sym (ap (λ (x : Bool). cond x (carry_on (search_of a.kind.0) (arcs_wide 8 a.table.now) a.n a.tie_break.now a.output.now a.k ++ drop a.n a.output.now) a.output.now) e);
     }

@@ -5,7 +5,7 @@ use mathlib.Core.Path.{◌≡◌, sym, subst}
 use native.Mathlib.Omega.{arith}
 use native.Mathlib.Numerals.{add-one}
 use lib.ListN.{length}
-use Rattle.bitset.proofs.Tests.{is_true, is_false, not_true, not_false}
+use Rattle.bitset.proofs.Tests.{is_true, is_false}
 use Rattle.searches.specs.Ordering.{at}
 use Rattle.adjacency.specs.Layout.{size_of}
 use Rattle.adjacency.specs.LeadsBack.{Due}
@@ -51,7 +51,7 @@ leads_back-requires c =
 
 pub returns-then-not-leads_back : goal.returns-then-not-leads_back
 returns-then-not-leads_back c =
-    sym (is_true _ (c.leads_back.ensures.not_all (not_true c.leads_back.result c.if-not-leads_back.true)))
+    sym (is_true _ (c.leads_back.ensures.not_all c.if-not-leads_back.true))
 
 pub loop-u-preserved : goal.loop-u-preserved
 loop-u-preserved c =
@@ -59,7 +59,7 @@ loop-u-preserved c =
     let due = c.leads_back.new.due in (
       omega (arith, c.loop-u-test.true),
       subst (λ (u : ℕ). Due a.offsets.now a.neighbours.now due (at a.offsets.now u)) (sym (add-one c.loop-u.u))
-          (c.leads_back.ensures.all (not_false c.leads_back.result c.if-not-leads_back.false)),
+          (c.leads_back.ensures.all c.if-not-leads_back.false),
     )
 
 pub returns : goal.returns

@@ -1,13 +1,12 @@
 -- `admission::rows::row_outside` meets its contract: no word that was passed has a bit at or above n.
 -- Assumes nothing.
 use mathlib.Core.Path.{◌≡◌, sym, ◌∙◌}
-use mathlib.Core.Logic.{⊎_elim}
 use Prim.Native.Nat.{◌-◌}
 use native.Mathlib.Omega.{arith}
 use Rattle.bitset.proofs.Passed.{passed_start, passed_more, any_found, any_unfound}
 use Rattle.admission.proofs.Outside.{word_outside, word_outside_lem, outside_by_words}
 use Rattle.admission.proofs.rows.row_outside.Goals as goal
-use Rattle.admission.proofs.rows.row_outside.Goals.{After-any_from}
+use Rattle.admission.proofs.rows.row_outside.Goals.{After-any_from, then-below-n, else-below-n}
 
 pub loop-i-init : goal.loop-i-init
 loop-i-init c = passed_start _ _
@@ -27,13 +26,13 @@ any_from-requires c = tt
 
 -- what the call answers is what is asked of the word
 asked : (c : After-any_from)
-    →     let a = c.args in
+    → let a = c.args in
     c.any_from.result ≡ word_outside a.n a.table.now a.u c.loop-i.i
 asked c =
     let a = c.args in
     c.any_from.ensures
     ∙ word_outside_lem a.n a.table.now a.u c.loop-i.i c.loop-i-test.true
-    (⊎_elim (λ w. w.1) (λ w. omega (arith, w.0.left, w.1)) c.if-below-n.branch)
+    (elim c.if-below-n.branch [ then-below-n w ↦ w.from-is | else-below-n w ↦ omega arith ])
 
 pub returns-then-any_from : goal.returns-then-any_from
 returns-then-any_from c =

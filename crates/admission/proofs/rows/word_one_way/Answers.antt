@@ -24,7 +24,7 @@ pub bounds-table-u : goal.bounds-table-u
 bounds-table-u c = omega (arith, c.requires.0.whole, c.requires.1, c.requires.2)
 
 pub loop-rest-init : goal.loop-rest-init
-loop-rest-init c = let a = c.args in scan_start 64 _ (c.shared_slice_known-2-1.given (8 * a.u + a.i)).fits
+loop-rest-init c = let a = c.args in scan_start 64 _ (c.type_inv.table (8 * a.u + a.i)).fits
 
 -- the smallest vertex that is left in the word
 found : (c : In-loop-rest)
@@ -51,7 +51,7 @@ contains-requires c =
 
 -- what the call answers, by the smallest vertex itself
 asked : (c : After-contains)
-    →     let a = c.args in
+    → let a = c.args in
     c.contains.result ≡ arcs_wide 8 a.table.now (64 * a.i + first_below 64 (member c.loop-rest.rest)) a.u
 asked c =
     let a = c.args in
@@ -60,7 +60,7 @@ asked c =
 pub returns-then-not-contains : goal.returns-then-not-contains
 returns-then-not-contains c =
     let f = found (goal.at.returns-then-not-contains c).In-loop-rest in
-    scan_found c.loop-rest.invariant _ f.0 f.1 (said_true _ (ap not (asked (goal.at.returns-then-not-contains c).After-contains)) c.if-not-contains.true)
+    scan_found c.loop-rest.invariant _ f.0 f.1 (said_true _ (ap not (asked (goal.at.returns-then-not-contains c).After-contains)) (ap not c.if-not-contains.true))
     ∙ one_sided_word _ _ _ c.requires.2
 
 pub without_smallest-rest-requires : goal.without_smallest-rest-requires
@@ -74,7 +74,7 @@ loop-rest-smaller c =
 pub loop-rest-preserved : goal.loop-rest-preserved
 loop-rest-preserved c =
     rw c.without_smallest-rest.ensures
-    (scan_next c.loop-rest.invariant _ (λ _. said_false _ (ap not (asked (goal.at.loop-rest-preserved c).After-contains)) c.if-not-contains.false))
+    (scan_next c.loop-rest.invariant _ (λ _. said_false _ (ap not (asked (goal.at.loop-rest-preserved c).After-contains)) (ap not c.if-not-contains.false)))
 
 pub returns : goal.returns
 returns c = scan_end c.loop-rest.invariant c.loop-rest-test.false ∙ one_sided_word _ _ _ c.requires.2

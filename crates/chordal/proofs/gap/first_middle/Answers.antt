@@ -18,26 +18,11 @@ use Rattle.chordal.proofs.gap.first_middle.Goals.{After-subset-filled}
 pub vertex_at-requires : goal.vertex_at-requires
 vertex_at-requires c = omega (arith, c.requires.0.all.long, c.requires.1)
 
-pub row_of-last-requires : goal.row_of-last-requires
-row_of-last-requires c = tt
-
 pub loop-j-init : goal.loop-j-init
 loop-j-init c = (passed_start _ _, seen_none _)
 
 pub vertex_at-vertex-requires : goal.vertex_at-vertex-requires
 vertex_at-vertex-requires c = omega (arith, c.requires.0.all.long, c.requires.1)
-
-pub contains-linked-requires : goal.contains-linked-requires
-contains-linked-requires c = tt
-
-pub common-requires : goal.common-requires
-common-requires c = tt
-
-pub row_of-requires : goal.row_of-requires
-row_of-requires c = tt
-
-pub subset-filled-requires : goal.subset-filled-requires
-subset-filled-requires c = tt
 
 -- what is asked is whether the position is the middle one of a gap
 asked : (c : After-subset-filled)
@@ -57,9 +42,6 @@ asked c =
 pub returns-then-linked-filled : goal.returns-then-linked-filled
 unfolding first_middle
 returns-then-linked-filled c = first_found c.loop-j.invariant.0 (sym (asked (goal.at.returns-then-linked-filled c).After-subset-filled) ∙ c.if-linked-filled.true)
-
-pub insert-before-requires : goal.insert-before-requires
-insert-before-requires c = tt
 
 pub loop-j-preserved : goal.loop-j-preserved
 loop-j-preserved c =

@@ -69,7 +69,7 @@ pub loop-u-preserved : goal.loop-u-preserved
 loop-u-preserved c =
     let written = c.write_numbers-end in
     laying_next c.args.rows.now c.args.offsets.now c.args.neighbours.now c.requires.1 c.requires.2 c.loop-u.invariant (turn c).0
-    written.ensures.0 written.ensures.1
+    written.ensures.end written.ensures.list
 
 pub shape_of-offsets : goal.shape_of-offsets
 shape_of-offsets c = (as_long (goal.at.shape_of-offsets c).At-loop-u).0

@@ -4,7 +4,6 @@ use Prim.Native.Nat.{ℕ, ◌-◌, ◌≤◌}
 use mathlib.Core.Path.{sym, ap, ◌∙◌}
 use mathlib.Core.List.{List}
 use native.Mathlib.Omega.{arith}
-use borrow.Author.Tests.{not_true, not_false}
 use Rattle.lines.proofs.LineByLine.{joined_as}
 use Rattle.dimacs.specs.Import.{is_point}
 use Rattle.dimacs.proofs.Gathered.{points_inside, edged, link_inside, link_outside}
@@ -14,11 +13,11 @@ use Rattle.dimacs.proofs.draw.link.Goals.{Else-not-inside}
 -- both points are from 1 to n, and n is at most 64
 inside : (c : Else-not-inside) → let a = c.args in (1 ≤ a.u) × (a.u ≤ 64) × (1 ≤ a.v) × (a.v ≤ 64)
 unfolding is_point
-inside c = let a = c.args in points_inside a.drawing.n a.u a.v c.requires.small (not_false _ c.if-not-inside.false)
+inside c = let a = c.args in points_inside a.drawing.n a.u a.v c.requires.small c.if-not-inside.false
 
 pub returns-then-not-inside : goal.returns-then-not-inside
 unfolding is_point
-returns-then-not-inside c = let a = c.args in c.halt.ensures ∙ sym (link_outside a.drawing a.u a.v (not_true _ c.if-not-inside.true))
+returns-then-not-inside c = let a = c.args in c.halt.ensures ∙ sym (link_outside a.drawing a.u a.v c.if-not-inside.true)
 
 pub overflow_sub-first : goal.overflow_sub-first
 overflow_sub-first c = omega (arith, inside c)
@@ -55,4 +54,4 @@ unfolding is_point
 returns c =
     let a = c.args in
     ap (λ (rows : List ℕ). edged a.drawing a.u a.v rows) (joined_as (a.u - 1) (a.v - 1) a.drawing.rows c.insert.ensures c.insert-2.ensures)
-    ∙ sym (link_inside a.drawing a.u a.v (not_false _ c.if-not-inside.false))
+    ∙ sym (link_inside a.drawing a.u a.v c.if-not-inside.false)

@@ -2,7 +2,7 @@
 -- Assumes nothing.
 use Prim.Native.Nat.{◌-◌, ◌^◌, ◌<◌}
 use native.Mathlib.Omega.{arith}
-use borrow.Author.Tests.{not_true, not_false}
+use Rattle.bitset.proofs.Tests.{not_true, not_false}
 use lib.ListN.{length}
 use Rattle.dimacs.proofs.Gathering.{gathering_start, gathering_few, gathering_drawable, gathering_stop, gathering_end, gathering_next}
 use Rattle.dimacs.proofs.draw.read_lines.Goals as goal
@@ -31,13 +31,13 @@ add_line-more-requires c =
 pub loop-at-smaller : goal.loop-at-smaller
 loop-at-smaller c =
     let step = c.next_line-step in
-    omega (arith, step.ensures.1.1.0, step.ensures.1.1.1)
+    omega (arith, step.ensures.further.0, step.ensures.further.1)
 
 pub loop-at-preserved : goal.loop-at-preserved
 loop-at-preserved c =
     let step = c.next_line-step in
-    gathering_next _ c.loop-at.invariant c.loop-at-test.true (not_false _ c.if-not-drawing.false) step.ensures.0 step.ensures.1.0
-    step.ensures.1.1.0 step.ensures.1.1.1 c.add_line-more.ensures
+    gathering_next _ c.loop-at.invariant c.loop-at-test.true (not_false _ c.if-not-drawing.false) step.ensures.line step.ensures.rest
+    step.ensures.further.0 step.ensures.further.1 c.add_line-more.ensures
 
 pub returns : goal.returns
 returns c = record {

@@ -1,5 +1,6 @@
 -- `dimacs::import::drawing_refusal` meets its contract: the tests are tried in their order.
 -- Assumes nothing.
+use mathlib.Core.Path.{ap}
 use mathlib.Core.Bool.{not, ◌&&◌}
 use mathlib.Core.List.{[], ◌∷◌}
 use Prim.Native.Nat.{ℕ}
@@ -33,7 +34,7 @@ small c = tried_one (headed (goal.at.Else-n-gt64 c).Else-not-drawing) (le-ltb _ 
 formed : (c : Else-malformed)
     →     let d = drawing-of (goal.at.Else-malformed c).After-struct_known-3-1 in
     Tried (drawing_tests d (size_of (goal.at.Else-malformed c).After-struct_known-3-1)) ((4, d.looped) ∷ (10, ltb (size_of (goal.at.Else-malformed c).After-struct_known-3-1) d.n) ∷ [])
-formed c = tried_one (small (goal.at.Else-malformed c).Else-n-gt64) c.if-malformed.false
+formed c = tried_one (small (goal.at.Else-malformed c).Else-n-gt64) (ap not c.if-malformed.false)
 
 loopless : (c : Else-looped)
     →     let d = drawing-of (goal.at.Else-looped c).After-struct_known-3-1 in
@@ -50,7 +51,7 @@ returns-then-n-gt64 c = refused_here (headed (goal.at.returns-then-n-gt64 c).Els
 
 pub returns-then-malformed : goal.returns-then-malformed
 unfolding number refusal_of
-returns-then-malformed c = refused_here (small (goal.at.returns-then-malformed c).Else-n-gt64) c.if-malformed.true
+returns-then-malformed c = refused_here (small (goal.at.returns-then-malformed c).Else-n-gt64) (ap not c.if-malformed.true)
 
 pub returns-then-looped : goal.returns-then-looped
 unfolding number refusal_of

@@ -20,7 +20,7 @@ decides : (c : After-drawing_refusal-checked) → let a = c.args in refusal_of c
 decides c =
     let a = c.args in
     let lines = c.read_lines-drawing in
-    c.drawing_refusal-checked.ensures ∙ tests_decide a.file.now a.rows.now lines.ensures.0 lines.ensures.1
+    c.drawing_refusal-checked.ensures ∙ tests_decide a.file.now a.rows.now lines.ensures.drawing lines.ensures.few
 
 -- no test holds
 accepted : (c : In_default) → let a = c.args in none ≡ first_refusal (import_tests a.file.now a.rows.now)

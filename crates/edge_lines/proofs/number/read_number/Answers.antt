@@ -62,8 +62,10 @@ returns c =
     let line = c.args.line.now in
     let start = c.args.cursor.at in
     let p = c.loop-value.invariant in
-    let whole = (
-      counting_value line start p (stopped (goal.at.returns c).After-loop-value),
-      (ap (λ (b : ℕ). ltb 0 (c.loop-value.end - start) && (not (eqb b 48) || eqb (c.loop-value.end - start) 1)) c.byte_at-unpadded.ensures ∙ numeral_test line start p (stopped (goal.at.returns c).After-loop-value), counting_rest line start p (stopped (goal.at.returns c).After-loop-value)),
-    ) in
-    record { value = whole.0; sound = whole.1; rest = whole.2 }
+    record {
+      value = counting_value line start p (stopped (goal.at.returns c).After-loop-value);
+      sound =
+          ap (λ (b : ℕ). ltb 0 (c.loop-value.end - start) && (not (eqb b 48) || eqb (c.loop-value.end - start) 1)) c.byte_at-unpadded.ensures
+          ∙ numeral_test line start p (stopped (goal.at.returns c).After-loop-value);
+      rest = counting_rest line start p (stopped (goal.at.returns c).After-loop-value);
+    }

@@ -60,5 +60,5 @@ pub returns : goal.returns
 returns c =
     let a = c.args in
     let e = c.replay-replayed.ensures in
-    moment_ended a.kind.0 a.mark a.rows.now a.barred a.ordering.now (accepted (goal.at.returns c).In_default) (columns_there (goal.at.returns c).After-columns_of) c.replay-replayed.result.count e.0 c.if-replayed-k.false e.1.1.0 e.1.1.1.0
-    e.1.1.1.1.1.1.weighed
+    moment_ended a.kind.0 a.mark a.rows.now a.barred a.ordering.now (accepted (goal.at.returns c).In_default) (columns_there (goal.at.returns c).After-columns_of) c.replay-replayed.result.count e.count c.if-replayed-k.false e.free e.labels
+    e.staged.weighed

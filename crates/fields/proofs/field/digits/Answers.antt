@@ -11,7 +11,7 @@ use Rattle.fields.proofs.field.digits.Goals.{After-digit-d}
 
 -- what was read in the four columns
 read : (c : After-digit-d)
-    →     (c.digit-a.result ≡ digit_value (at c.args.bytes.now c.args.i))
+    → (c.digit-a.result ≡ digit_value (at c.args.bytes.now c.args.i))
     × (c.digit-b.result ≡ digit_value (at c.args.bytes.now (c.args.i + 1)))
     × (c.digit-c.result ≡ digit_value (at c.args.bytes.now (c.args.i + 2)))
     × (c.digit-d.result ≡ digit_value (at c.args.bytes.now (c.args.i + 3)))

@@ -11,7 +11,7 @@ use Rattle.fields.proofs.field.field.Goals.{After-ones_of}
 
 -- the four comparisons are the test
 compared : (c : After-ones_of)
-    →     ((eqb c.byte_at.result c.lead_of.result
+    → ((eqb c.byte_at.result c.lead_of.result
     && eqb c.byte_at-2.result c.lead_of-2.result)
     && (eqb c.byte_at-3.result c.lead_of-3.result && eqb c.byte_at-4.result c.ones_of.result))
     ≡ is_field_at c.args.bytes.now c.args.i c.digits-x.result

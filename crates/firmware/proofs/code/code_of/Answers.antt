@@ -10,9 +10,6 @@ use Rattle.firmware.proofs.code.code_of.Goals as goal
 code : Judgement → ℕ
 code j = code_of (verdict_of j)
 
-pub number-requires : goal.number-requires
-number-requires c = tt
-
 pub returns-in-Passes : goal.returns-in-Passes
 unfolding code code_of verdict_of
 returns-in-Passes c = sym (ap code c.in-Passes.is)

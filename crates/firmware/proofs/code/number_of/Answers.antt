@@ -10,9 +10,6 @@ use Rattle.firmware.proofs.code.number_of.Goals as goal
 code : Outcome → ℕ
 code o = number_of (refusal_of o)
 
-pub number-requires : goal.number-requires
-number-requires c = tt
-
 pub returns-in-Done : goal.returns-in-Done
 unfolding code number_of refusal_of
 returns-in-Done c = sym (ap code c.in-Done.is)

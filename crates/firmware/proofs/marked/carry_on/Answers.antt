@@ -9,12 +9,6 @@ use Rattle.firmware.proofs.Unread.{read, carry_on_unread, carry_on_read}
 use Rattle.firmware.proofs.marked.carry_on.Goals as goal
 use Rattle.firmware.proofs.marked.carry_on.Goals.{In_default}
 
-pub refusal-checked-requires : goal.refusal-checked-requires
-refusal-checked-requires c = tt
-
-pub number-requires : goal.number-requires
-number-requires c = tt
-
 pub returns-in-Refused : goal.returns-in-Refused
 unfolding refusal_of
 returns-in-Refused c =
@@ -44,12 +38,6 @@ pub slice_bounds-carry_on-end : goal.slice_bounds-carry_on-end
 slice_bounds-carry_on-end c =
     let a = c.args in
     part_length a.plan.now c.decode.new.rows c.decode.ensures
-
-pub carry_on-carried-requires : goal.carry_on-carried-requires
-carry_on-carried-requires c = tt
-
-pub number_of-requires : goal.number_of-requires
-number_of-requires c = tt
 
 pub returns : goal.returns
 returns c =

@@ -9,12 +9,6 @@ use Rattle.firmware.proofs.Unread.{read, judge_unread, judge_read}
 use Rattle.firmware.proofs.marked.judge.Goals as goal
 use Rattle.firmware.proofs.marked.judge.Goals.{In_default}
 
-pub refusal-checked-requires : goal.refusal-checked-requires
-refusal-checked-requires c = tt
-
-pub number-requires : goal.number-requires
-number-requires c = tt
-
 pub returns-in-Refused : goal.returns-in-Refused
 unfolding refusal_of
 returns-in-Refused c =
@@ -40,12 +34,6 @@ pub slice_bounds-judge-end : goal.slice_bounds-judge-end
 slice_bounds-judge-end c =
     let a = c.args in
     part_length a.plan.now c.decode.new.rows c.decode.ensures
-
-pub judge-requires : goal.judge-requires
-judge-requires c = tt
-
-pub code_of-requires : goal.code_of-requires
-code_of-requires c = tt
 
 pub returns : goal.returns
 returns c =

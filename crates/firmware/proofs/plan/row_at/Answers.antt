@@ -5,18 +5,14 @@ use native.Mathlib.Omega.{arith}
 use lib.ListN.{get_or}
 use Rattle.firmware.proofs.Reading.{reading_start, reading_next, reading_fits, reading_end}
 use Rattle.firmware.proofs.plan.row_at.Goals as goal
-use Rattle.firmware.proofs.plan.row_at.Goals.{After-shared_slice_known-1, In-loop-b}
+use Rattle.firmware.proofs.plan.row_at.Goals.{In-loop-b}
 
 pub loop-b-init : goal.loop-b-init
 loop-b-init c = reading_start c.args.plan.now c.args.u
 
--- the row has room for another byte, and the next one is a byte
+-- the row has room for another byte
 room : (c : In-loop-b) → c.loop-b.row * 256 + 255 < 2 ^ 64
 room c = reading_fits c.args.plan.now c.args.u c.loop-b.invariant (omega arith)
-
-byte : (c : After-shared_slice_known-1)
-    → get_or c.args.plan.now (8 * c.args.u + (c.loop-b.b - 1)) 0 < 256
-byte c = omega (arith, c.shared_slice_known-1.given (8 * c.args.u + (c.loop-b.b - 1)))
 
 pub overflow_mul-row : goal.overflow_mul-row
 overflow_mul-row c = omega (arith, room c)
@@ -27,15 +23,12 @@ overflow_add-row c = omega (arith, c.loop-b.invariant.upto)
 pub bounds-plan-u : goal.bounds-plan-u
 bounds-plan-u c = omega (arith, c.loop-b.invariant.upto)
 
-pub overflow_cast-row : goal.overflow_cast-row
-overflow_cast-row c = omega (arith, byte c)
-
 pub overflow_add-row-in-loop-b : goal.overflow_add-row-in-loop-b
-overflow_add-row-in-loop-b c = omega (arith, room (goal.at.overflow_add-row-in-loop-b c).In-loop-b, byte c)
+overflow_add-row-in-loop-b c = omega (arith, room (goal.at.overflow_add-row-in-loop-b c).In-loop-b, c.type_inv.plan (8 * c.args.u + (c.loop-b.b - 1)))
 
 pub loop-b-preserved : goal.loop-b-preserved
 loop-b-preserved c =
-    reading_next c.args.plan.now c.args.u c.loop-b.invariant (omega arith) (byte c)
+    reading_next c.args.plan.now c.args.u c.loop-b.invariant (omega arith) (omega (arith, c.type_inv.plan (8 * c.args.u + (c.loop-b.b - 1))))
 
 pub returns : goal.returns
 returns c = reading_end c.args.plan.now c.args.u c.loop-b.invariant (omega arith)

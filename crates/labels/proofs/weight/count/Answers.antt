@@ -2,7 +2,6 @@
 -- Assumes nothing.
 use Prim.Native.Nat.{ℕ}
 use mathlib.Core.Path.{◌≡◌, sym, ap, ◌∙◌}
-use mathlib.Core.Logic.{⊎_elim}
 use lib.ListN.{get_or, get_or-eq_default}
 use Rattle.bitset.specs.Below.{count_below}
 use Rattle.bitset.specs.Word.{member, common}

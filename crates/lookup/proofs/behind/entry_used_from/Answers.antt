@@ -1,6 +1,5 @@
 -- `lookup::behind::entry_used_from` meets its contract: no entry that was passed is used.
 -- Assumes nothing.
-use Prim.Native.Nat.{◌-◌}
 use native.Mathlib.Omega.{arith}
 use Rattle.bitset.proofs.Passed.{passed_more, any_found, any_unfound}
 use Rattle.lookup.specs.Unused.{used_from}
@@ -19,11 +18,10 @@ returns-then-ordering-p-ne0 c =
     any_found _ _ c.loop-p-test.true (used_there c.args.k c.args.ordering.now c.loop-p.invariant.0 c.if-ordering-p-ne0.true)
 
 pub loop-p-preserved : goal.loop-p-preserved
-loop-p-preserved c =
-    (
-      omega (arith, c.loop-p.invariant.0),
-      passed_more c.loop-p.invariant.1 c.loop-p-test.true (unused_there c.args.k c.args.ordering.now c.loop-p.invariant.0 c.if-ordering-p-ne0.false),
-    )
+loop-p-preserved c = (
+  omega (arith, c.loop-p.invariant.0),
+  passed_more c.loop-p.invariant.1 c.loop-p-test.true (unused_there c.args.k c.args.ordering.now c.loop-p.invariant.0 c.if-ordering-p-ne0.false),
+)
 
 pub returns : goal.returns
 unfolding used_from

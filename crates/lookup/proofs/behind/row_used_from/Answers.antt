@@ -1,6 +1,5 @@
 -- `lookup::behind::row_used_from` meets its contract: no row that was passed is used.
 -- Assumes nothing.
-use Prim.Native.Nat.{◌-◌}
 use native.Mathlib.Omega.{arith}
 use Rattle.bitset.proofs.Passed.{passed_more, any_found, any_unfound}
 use Rattle.lookup.specs.Unused.{used_from}
@@ -19,11 +18,10 @@ returns-then-rows-u-ne0 c =
     any_found _ _ c.loop-u-test.true (used_there c.args.n c.args.rows.now c.loop-u.invariant.0 c.if-rows-u-ne0.true)
 
 pub loop-u-preserved : goal.loop-u-preserved
-loop-u-preserved c =
-    (
-      omega (arith, c.loop-u.invariant.0),
-      passed_more c.loop-u.invariant.1 c.loop-u-test.true (unused_there c.args.n c.args.rows.now c.loop-u.invariant.0 c.if-rows-u-ne0.false),
-    )
+loop-u-preserved c = (
+  omega (arith, c.loop-u.invariant.0),
+  passed_more c.loop-u.invariant.1 c.loop-u-test.true (unused_there c.args.n c.args.rows.now c.loop-u.invariant.0 c.if-rows-u-ne0.false),
+)
 
 pub returns : goal.returns
 unfolding used_from

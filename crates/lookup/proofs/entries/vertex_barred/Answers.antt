@@ -1,6 +1,5 @@
 -- `lookup::entries::vertex_barred` meets its contract: no entry that was passed is barred.
 -- Assumes nothing.
-use Prim.Native.Nat.{◌-◌}
 use mathlib.Core.Path.{sym, ◌∙◌}
 use native.Mathlib.Omega.{arith}
 use Rattle.bitset.proofs.Tests.{is_false}

@@ -1,6 +1,5 @@
 -- `lookup::entries::vertex_outside` meets its contract: no entry that was passed is n or more.
 -- Assumes nothing.
-use Prim.Native.Nat.{◌-◌}
 use native.Mathlib.Omega.{arith}
 use borrow.Author.Tests.{le-leb, lt-leb}
 use Rattle.searches.specs.Answer.{vertex_outside}

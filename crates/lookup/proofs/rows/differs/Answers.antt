@@ -1,6 +1,5 @@
 -- `lookup::rows::differs` meets its contract: what differs in the rows that were passed is in the word.
 -- Assumes nothing.
-use Prim.Native.Nat.{◌-◌}
 use native.Mathlib.Omega.{arith}
 use Rattle.lookup.proofs.Symmetry.{gathered_none, gathered_more, gathered_all}
 use Rattle.lookup.proofs.rows.differs.Goals as goal

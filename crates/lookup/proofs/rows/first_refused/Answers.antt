@@ -1,7 +1,6 @@
 -- `lookup::rows::first_refused` meets its contract: no row that was passed is refused.
 -- Assumes nothing.
 use mathlib.Core.Path.{sym, ◌∙◌}
-use Prim.Native.Nat.{◌-◌}
 use Rattle.bitset.proofs.Passed.{passed_start, passed_more, first_found, first_unfound}
 use Rattle.lookup.proofs.rows.first_refused.Goals as goal
 

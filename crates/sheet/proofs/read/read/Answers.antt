@@ -32,8 +32,11 @@ unfolding refusal_of held_in held_unless
 returns-in-Refused c =
     let b = c.args.sheet.now in
     let a = sym (ap refusal_of c.in-Refused.is) ∙ (answered (goal.at.returns-in-Refused c).After-decide-answer).0 in
-    let whole = (ap (λ (answer : Option ℕ). held_unless answer b) a, (a, (answered (goal.at.returns-in-Refused c).After-decide-answer).1)) in
-    record { held = whole.0; answer = whole.1; line = whole.2 }
+    record {
+      held = ap (λ (answer : Option ℕ). held_unless answer b) a;
+      answer = a;
+      line = (answered (goal.at.returns-in-Refused c).After-decide-answer).1;
+    }
 
 pub returns : goal.returns
 unfolding refusal_of held_in
@@ -41,5 +44,8 @@ returns c =
     let b = c.args.sheet.now in
     let a : none ≡ read_answer b = sym (ap refusal_of c.in_default.is) ∙ (answered (goal.at.returns c).After-decide-answer).0 in
     let held : Parsed → Held = λ p. record { n = p.content.n; rows = p.content.rows; k = p.content.k; ordering = p.content.ordering } in
-    let whole = (ap held c.parse-parsed.ensures ∙ parsed_held b a ∙ ap (λ (answer : Option ℕ). held_unless answer b) a, (a, (answered (goal.at.returns c).After-decide-answer).1)) in
-    record { held = whole.0; answer = whole.1; line = whole.2 }
+    record {
+      held = ap held c.parse-parsed.ensures ∙ parsed_held b a ∙ ap (λ (answer : Option ℕ). held_unless answer b) a;
+      answer = a;
+      line = (answered (goal.at.returns c).After-decide-answer).1;
+    }

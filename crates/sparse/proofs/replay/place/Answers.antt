@@ -62,8 +62,8 @@ spread_is c =
     let a = c.args in
     let p = a.position.0 in (
       c.spread.ensures.labels ∙ ap (λ (x : ℕ). spread_to x p a.labels.now) (grown (goal.at.After-spread c).After-common-grown),
-      c.spread.ensures.smallest.0 ∙ ap (λ (x : ℕ). smallest_to x p a.smallest.now) (grown (goal.at.After-spread c).After-common-grown),
-      c.spread.ensures.smallest.1.0 ∙ ap (λ (x : ℕ). largest_to x p a.largest.now) (grown (goal.at.After-spread c).After-common-grown),
+      c.spread.ensures.smallest ∙ ap (λ (x : ℕ). smallest_to x p a.smallest.now) (grown (goal.at.After-spread c).After-common-grown),
+      c.spread.ensures.largest ∙ ap (λ (x : ℕ). largest_to x p a.largest.now) (grown (goal.at.After-spread c).After-common-grown),
     )
 
 -- whom the vertex leads to is reached
@@ -88,33 +88,25 @@ offered_after-offered-requires c =
       placed_narrows c.requires.placeable at-labels c.remove-free.ensures c.remove-stay.ensures (grown (goal.at.offered_after-offered-requires c).After-common-grown),
       placed_covers c.requires.placeable at-labels (reached_is (goal.at.offered_after-offered-requires c).After-union-reached),
       placed_reaches c.requires.placeable at-labels (reached_is (goal.at.offered_after-offered-requires c).After-union-reached) c.remove-free.ensures,
-      c.spread.ensures.smallest.1.1,
+      c.spread.ensures.weights,
       placed_leads c.args.kind.0 c.requires.placeable at-labels c.remove-free.ensures (reached_is (goal.at.offered_after-offered-requires c).After-union-reached) (early_is (goal.at.offered_after-offered-requires c).After-common-early) (grown (goal.at.offered_after-offered-requires c).After-common-grown),
     )
 
 pub returns : goal.returns
 returns c =
     let is = spread_is (goal.at.returns c).After-spread in
-    let whole = (
-      c.insert-set.ensures,
-      (
-        c.remove-free.ensures,
-        (
-          is.0,
-          (
-            is.1,
-            (
-              is.2,
-              record {
-                earlier = placed_earlier c.requires.placeable is.0;
-                weighed = c.spread.ensures.smallest.1.1;
-                offers = c.offered_after-offered.ensures;
-                covers = placed_covers c.requires.placeable is.0 (reached_is (goal.at.returns c).After-union-reached);
-                reaches = placed_reaches c.requires.placeable is.0 (reached_is (goal.at.returns c).After-union-reached) c.remove-free.ensures;
-              },
-            ),
-          ),
-        ),
-      ),
-    ) in
-    record { set = whole.0; free = whole.1; labels = whole.2; smallest = whole.3; largest = whole.4; staged = whole.5 }
+    record {
+      set = c.insert-set.ensures;
+      free = c.remove-free.ensures;
+      labels = is.0;
+      smallest = is.1;
+      largest = is.2;
+      staged =
+          record {
+            earlier = placed_earlier c.requires.placeable is.0;
+            weighed = c.spread.ensures.weights;
+            offers = c.offered_after-offered.ensures;
+            covers = placed_covers c.requires.placeable is.0 (reached_is (goal.at.returns c).After-union-reached);
+            reaches = placed_reaches c.requires.placeable is.0 (reached_is (goal.at.returns c).After-union-reached) c.remove-free.ensures;
+          };
+    }

@@ -8,7 +8,7 @@ use lib.Dec.{T}
 use lib.ListN.{length}
 use native.Mathlib.Omega.{arith}
 use Rattle.bitset.specs.Word.{difference, full_below}
-use Rattle.bitset.proofs.Tests.{said_true, said_false, not_true, not_false}
+use Rattle.bitset.proofs.Tests.{said_true, said_false}
 use Rattle.searches.specs.Kind.{search_of}
 use Rattle.adjacency.specs.Layout.{size_of, rows_listed}
 use Rattle.adjacency.proofs.Layouts.{rows_length}
@@ -62,16 +62,17 @@ returns-then-not-is_open c =
     let r = rows_of (goal.at.returns-then-not-is_open c).Start in
     let all = all_of (goal.at.returns-then-not-is_open c).Start in
     let i = c.loop-j.invariant in
-    let closed = said_false (not (stops_at k r all w c.loop-j.j)) (answered (goal.at.returns-then-not-is_open c).After-is_open) (not_true c.is_open.result c.if-not-is_open.true) in
-    let whole = (
-      replay_stop k r all w (length w) i c.loop-j-test.true (stops (stops_at k r all w c.loop-j.j) closed),
-      (i.unplaced, (i.labelled, i.staged)),
-    )
+    let closed = said_false (not (stops_at k r all w c.loop-j.j)) (answered (goal.at.returns-then-not-is_open c).After-is_open) c.if-not-is_open.true in
+    record {
+      count = replay_stop k r all w (length w) i c.loop-j-test.true (stops (stops_at k r all w c.loop-j.j) closed);
+      free = i.unplaced;
+      labels = i.labelled;
+      staged = i.staged;
+    }
   where
     stops : (b : Bool) → (T (not b) → ⊥) → T b
     stops true out = tt
-    stops false out = absurd (out tt) in
-    record { count = whole.0; free = whole.1; labels = whole.2; staged = whole.3 }
+    stops false out = absurd (out tt)
 
 pub place-stage-requires : goal.place-stage-requires
 place-stage-requires c =
@@ -103,8 +104,8 @@ loop-j-preserved c =
     replay_next k r all w (length a.ordering.now)
     (whole_inside c.requires.replayable.small a.barred) c.requires.replayable c.loop-j.invariant c.loop-j-test.true c.vertex_at-b.ensures c.place-stage.new.labels c.place-stage.new.smallest
     c.place-stage.new.largest c.place-stage.result
-    (goes_on (stops_at k r all w c.loop-j.j) (said_true (not (stops_at k r all w c.loop-j.j)) (answered (goal.at.loop-j-preserved c).After-is_open) (not_false c.is_open.result c.if-not-is_open.false)))
-    e.1.1.0 e.1.1.1.0 e.1.1.1.1.0 e.0 e.1.0 e.1.1.1.1.1
+    (goes_on (stops_at k r all w c.loop-j.j) (said_true (not (stops_at k r all w c.loop-j.j)) (answered (goal.at.loop-j-preserved c).After-is_open) c.if-not-is_open.false))
+    e.labels e.smallest e.largest e.set e.free e.staged
   where
     goes_on : (b : Bool) → T (not b) → T b → ⊥
     goes_on true t = λ _. t
@@ -118,11 +119,9 @@ returns c =
     let all = all_of (goal.at.returns c).Start in
     let i = c.loop-j.invariant in
     let e : c.loop-j.j ≡ length w = omega (arith, i.upto) in
-    let whole = (
-      sym e ∙ replay_end k r all w (length w) i (omega arith),
-      (
-        i.unplaced ∙ ap (λ (m : ℕ). free_after all w m) e,
-        (i.labelled ∙ ap (λ (m : ℕ). labels_after r all w m) e, subst (Staged k c.loop-j.labels c.loop-j.weights c.loop-j.stage) e i.staged),
-      ),
-    ) in
-    record { count = whole.0; free = whole.1; labels = whole.2; staged = whole.3 }
+    record {
+      count = sym e ∙ replay_end k r all w (length w) i (omega arith);
+      free = i.unplaced ∙ ap (λ (m : ℕ). free_after all w m) e;
+      labels = i.labelled ∙ ap (λ (m : ℕ). labels_after r all w m) e;
+      staged = subst (Staged k c.loop-j.labels c.loop-j.weights c.loop-j.stage) e i.staged;
+    }

@@ -153,11 +153,9 @@ returns c =
     subst (λ (x : ℕ). SpreadingAll p a.row a.labels.now a.smallest.now a.largest.now k.labels k.smallest k.largest x)
     c.loop-rest-test.false k.invariant.0
     in
-    let whole = (
-      spread_end (label_with p) a.row 64 a.labels.now k.labels over.0,
-      (
-        spread_end (smallest_with p) a.row 64 a.smallest.now k.smallest over.1,
-        (spread_end (largest_with p) a.row 64 a.largest.now k.largest over.2, k.invariant.1),
-      ),
-    ) in
-    record { labels = whole.0; smallest = whole.1; largest = whole.2; weights = whole.3 }
+    record {
+      labels = spread_end (label_with p) a.row 64 a.labels.now k.labels over.0;
+      smallest = spread_end (smallest_with p) a.row 64 a.smallest.now k.smallest over.1;
+      largest = spread_end (largest_with p) a.row 64 a.largest.now k.largest over.2;
+      weights = k.invariant.1;
+    }

@@ -7,7 +7,7 @@ use lib.Dec.{T}
 use lib.ListN.{length}
 use native.Mathlib.Omega.{arith}
 use Rattle.bitset.specs.Word.{difference}
-use Rattle.bitset.proofs.Tests.{said_true, said_false, not_true, not_false}
+use Rattle.bitset.proofs.Tests.{said_true, said_false}
 use Rattle.searches.specs.Kind.{search_of}
 use Rattle.steps.specs.Steps.{whole, labels_after, smallest_after, largest_after, placed_after, free_after, stops_at, Staged}
 use Rattle.steps.proofs.Representation.{whole_inside, whole_word}
@@ -36,7 +36,7 @@ is_open-requires c =
 
 -- whether the vertex is offered
 answered : (c : After-is_open)
-    →     let a = c.args in
+    → let a = c.args in
     c.is_open.result ≡ not (stops_at (search_of a.kind.0) a.rows.now (whole (length a.rows.now) a.barred) a.ordering.now c.loop-j.j)
 answered c =
     let a = c.args in
@@ -49,16 +49,20 @@ returns-then-not-is_open c =
     let r = c.args.rows.now in
     let all = whole (length r) c.args.barred in
     let i = c.loop-j.invariant in
-    let closed = said_false (not (stops_at k r all w c.loop-j.j)) (answered (goal.at.returns-then-not-is_open c).After-is_open) (not_true c.is_open.result c.if-not-is_open.true) in
-    let whole = (
-      replay_stop k r all w c.args.k i c.loop-j-test.true (stops (stops_at k r all w c.loop-j.j) closed),
-      (i.set, (i.unplaced, (i.labelled, (i.after_smallest, (i.after_largest, i.staged))))),
-    )
+    let closed = said_false (not (stops_at k r all w c.loop-j.j)) (answered (goal.at.returns-then-not-is_open c).After-is_open) c.if-not-is_open.true in
+    record {
+      count = replay_stop k r all w c.args.k i c.loop-j-test.true (stops (stops_at k r all w c.loop-j.j) closed);
+      set = i.set;
+      free = i.unplaced;
+      labels = i.labelled;
+      smallest = i.after_smallest;
+      largest = i.after_largest;
+      staged = i.staged;
+    }
   where
     stops : (b : Bool) → (T (not b) → ⊥) → T b
     stops true out = tt
-    stops false out = absurd (out tt) in
-    record { count = whole.0; set = whole.1; free = whole.2; labels = whole.3; smallest = whole.4; largest = whole.5; staged = whole.6 }
+    stops false out = absurd (out tt)
 
 pub place-stage-requires : goal.place-stage-requires
 place-stage-requires c =
@@ -79,8 +83,8 @@ loop-j-preserved c =
     let e = c.place-stage.ensures in
     replay_next k r all w a.k (whole_inside c.requires.small a.barred) c.requires c.loop-j.invariant c.loop-j-test.true c.vertex_at-b.ensures c.place-stage.new.labels c.place-stage.new.smallest
     c.place-stage.new.largest c.place-stage.result
-    (goes_on (stops_at k r all w c.loop-j.j) (said_true (not (stops_at k r all w c.loop-j.j)) (answered (goal.at.loop-j-preserved c).After-is_open) (not_false c.is_open.result c.if-not-is_open.false)))
-    e.1.1.0 e.1.1.1.0 e.1.1.1.1.0 e.0 e.1.0 e.1.1.1.1.1
+    (goes_on (stops_at k r all w c.loop-j.j) (said_true (not (stops_at k r all w c.loop-j.j)) (answered (goal.at.loop-j-preserved c).After-is_open) c.if-not-is_open.false))
+    e.labels e.smallest e.largest e.set e.free e.staged
   where
     goes_on : (b : Bool) → T (not b) → T b → ⊥
     goes_on true t = λ _. t
@@ -94,20 +98,12 @@ returns c =
     let all = whole (length r) c.args.barred in
     let i = c.loop-j.invariant in
     let e : c.loop-j.j ≡ c.args.k = omega (arith, i.upto) in
-    let whole = (
-      sym e ∙ replay_end k r all w c.args.k i (omega arith),
-      (
-        i.set ∙ ap (λ (m : ℕ). placed_after w m) e,
-        (
-          i.unplaced ∙ ap (λ (m : ℕ). free_after all w m) e,
-          (
-            i.labelled ∙ ap (λ (m : ℕ). labels_after r all w m) e,
-            (
-              i.after_smallest ∙ ap (λ (m : ℕ). smallest_after r all w m) e,
-              (i.after_largest ∙ ap (λ (m : ℕ). largest_after r all w m) e, subst (Staged k c.loop-j.labels c.loop-j.weights c.loop-j.stage) e i.staged),
-            ),
-          ),
-        ),
-      ),
-    ) in
-    record { count = whole.0; set = whole.1; free = whole.2; labels = whole.3; smallest = whole.4; largest = whole.5; staged = whole.6 }
+    record {
+      count = sym e ∙ replay_end k r all w c.args.k i (omega arith);
+      set = i.set ∙ ap (λ (m : ℕ). placed_after w m) e;
+      free = i.unplaced ∙ ap (λ (m : ℕ). free_after all w m) e;
+      labels = i.labelled ∙ ap (λ (m : ℕ). labels_after r all w m) e;
+      smallest = i.after_smallest ∙ ap (λ (m : ℕ). smallest_after r all w m) e;
+      largest = i.after_largest ∙ ap (λ (m : ℕ). largest_after r all w m) e;
+      staged = subst (Staged k c.loop-j.labels c.loop-j.weights c.loop-j.stage) e i.staged;
+    }

@@ -23,7 +23,7 @@ returns-then-not-moment c =
     let t = c.args.self in
     let asked = c.survey-moment in
     let refused = offered_refused t (sym (surveyed_passes t asked.ensures) ∙ not_true asked.result.passes c.if-not-moment.true) in
-    (refl, (refused.0, refused.1))
+    record { state = refl; set = refused.0; answer = refused.1 }
 
 -- what is known once 13 does not apply
 sound : (c : Else-not-moment) → T (well_formed c.args.self)
@@ -46,4 +46,4 @@ returns c =
     let words = surveyed_words t full.0 full.1 asked.ensures (sound (goal.at.returns c).Else-not-moment) in
     let formed = well_formed_out t full.0 full.1 (sound (goal.at.returns c).Else-not-moment) in
     let whole = offered_whole t (is_true (well_formed t) (sound (goal.at.returns c).Else-not-moment)) (open_offers t full.0 full.1 formed words.0 words.1) in
-    (refl, (c.open_below-set.ensures ∙ whole.0, whole.1))
+    record { state = refl; set = c.open_below-set.ensures ∙ whole.0; answer = whole.1 }

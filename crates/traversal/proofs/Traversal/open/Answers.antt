@@ -17,7 +17,7 @@ pub returns-in-Refused : goal.returns-in-Refused
 unfolding refusal_of open_barring opened nothing_open
 returns-in-Refused c =
     let e = sym (ap refusal_of c.in-Refused.is) ∙ c.open_refusal-checked.ensures in
-    (kept_handed _ nothing_open e, e)
+    record { state = kept_handed _ nothing_open e; answer = e }
 
 accepted : (c : In_default)
     → let a = c.args in
@@ -32,8 +32,8 @@ pub returns : goal.returns
 unfolding refusal_of open_barring opened
 returns c =
     let a = c.args in
-    let rows = a.rows.now in (
-      ap (λ (copy : List ℕ). state a.kind a.mark (length rows) copy a.barred 0 (replicate 64 0)) (c.copy.ensures ∙ ap (λ (x : List ℕ). rows ++ x) (behind_zeros (length rows)))
-          ∙ next_handed _ nothing_open (accepted (goal.at.returns c).In_default),
-      accepted (goal.at.returns c).In_default,
-    )
+    let rows = a.rows.now in record {
+      state = ap (λ (copy : List ℕ). state a.kind a.mark (length rows) copy a.barred 0 (replicate 64 0)) (c.copy.ensures ∙ ap (λ (x : List ℕ). rows ++ x) (behind_zeros (length rows)))
+          ∙ next_handed _ nothing_open (accepted (goal.at.returns c).In_default);
+      answer = accepted (goal.at.returns c).In_default;
+    }

@@ -20,7 +20,7 @@ unfolding refusal_of grown
 returns-in-Refused c =
     let t = c.args.self in
     let e = sym (ap refusal_of c.in-Refused.is) ∙ c.place_refusal-checked.ensures in
-    (kept_handed _ t e, e)
+    record { state = kept_handed _ t e; answer = e }
 
 accepted : (c : In_default)
     → let a = c.args in
@@ -42,4 +42,4 @@ pub returns : goal.returns
 unfolding refusal_of grown
 returns c =
     let t = c.args.self in
-    (next_handed _ t (accepted c), accepted c)
+    record { state = next_handed _ t (accepted c); answer = accepted c }

@@ -14,7 +14,7 @@ unfolding refusal_of shrunk
 returns-in-Refused c =
     let t = c.args.self in
     let e = sym (ap refusal_of c.in-Refused.is) ∙ c.take_back_refusal-checked.ensures in
-    (kept_handed _ t e, e)
+    record { state = kept_handed _ t e; answer = e }
 
 accepted : (c : In_default) → none ≡ take_back_answer c.args.self
 unfolding refusal_of
@@ -33,4 +33,4 @@ pub returns : goal.returns
 unfolding refusal_of shrunk
 returns c =
     let t = c.args.self in
-    (next_handed _ t (accepted c), accepted c)
+    record { state = next_handed _ t (accepted c); answer = accepted c }

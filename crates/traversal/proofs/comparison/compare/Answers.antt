@@ -2,7 +2,7 @@
 -- the moment tell how the two stand.
 -- Assumes nothing.
 use mathlib.Core.Path.{◌≡◌, sym, ap, ap₂, ◌∙◌, subst}
-use mathlib.Core.Bool.{Bool, not, ◌||◌, not_not}
+use mathlib.Core.Bool.{Bool, not, ◌||◌, not-not}
 use mathlib.Core.List.{List}
 use Prim.Native.Nat.{ℕ, ◌<◌}
 use native.Mathlib.Omega.{arith}
@@ -23,7 +23,7 @@ use Rattle.traversal.specs.Compare.{compare_tests, told, report_of}
 use Rattle.traversal.proofs.WellFormed.{surveyed_passes, surveyed_words, surveyed_weighed, well_formed_out, free_offers, compared_stance}
 use Rattle.traversal.proofs.Telling.{report_refused, report_told}
 use Rattle.traversal.proofs.comparison.compare.Goals as goal
-use Rattle.traversal.proofs.comparison.compare.Goals.{After-profile_of-b, After-profile_of-c, After-struct_known-3-1, Else-not-moment, Else-out_of_service, Else-outside, Else-taken, Start}
+use Rattle.traversal.proofs.comparison.compare.Goals.{After-profile_of-b, After-profile_of-c, After-survey-moment, Else-not-moment, Else-out_of_service, Else-outside, Else-taken, Start}
 
 abbrev asked : Start → Traversal
 asked s = state s.args.kind s.args.mark s.args.n s.args.rows.now s.args.barred s.args.k s.args.ordering.now
@@ -38,11 +38,11 @@ Past i s = Tried (tests s) (drop i (tests s))
 -- ---- what is known once 13 does not apply
 
 -- what survey says of the state
-well : (c : After-struct_known-3-1) → c.survey-moment.result.passes ≡ well_formed (asked (goal.at.After-struct_known-3-1 c).Start)
-well c = surveyed_passes (asked (goal.at.After-struct_known-3-1 c).Start) c.survey-moment.ensures
+well : (c : After-survey-moment) → c.survey-moment.result.passes ≡ well_formed (asked (goal.at.After-survey-moment c).Start)
+well c = surveyed_passes (asked (goal.at.After-survey-moment c).Start) c.survey-moment.ensures
 
 sound : (c : Else-not-moment) → T (well_formed (asked (goal.at.Else-not-moment c).Start))
-sound c = subst (λ (b : Bool). T b) (sym (not_false c.survey-moment.result.passes c.if-not-moment.false) ∙ well (goal.at.Else-not-moment c).After-struct_known-3-1) tt
+sound c = subst (λ (b : Bool). T b) (sym (not_false c.survey-moment.result.passes c.if-not-moment.false) ∙ well (goal.at.Else-not-moment c).After-survey-moment) tt
 
 formed : (c : Else-not-moment) → WellFormed (asked (goal.at.Else-not-moment c).Start)
 formed c = well_formed_out (asked (goal.at.Else-not-moment c).Start) c.requires.0 c.requires.1 (sound c)
@@ -89,7 +89,7 @@ stands_in_lem : (c : Else-out_of_service) (v : ℕ) {r : Bool}
 unfolding plan walk
 stands_in_lem c v l out e =
     let words = surveyed_words (asked (goal.at.Else-out_of_service c).Start) c.requires.0 c.requires.1 c.survey-moment.ensures (sound (goal.at.Else-out_of_service c).Else-not-moment) in
-    sym (ap not (e ∙ free_offers (asked (goal.at.Else-out_of_service c).Start) c.requires.0 c.requires.1 (formed (goal.at.Else-out_of_service c).Else-not-moment) words.0 words.1 v l out) ∙ not_not (placed (walk (asked (goal.at.Else-out_of_service c).Start)) c.args.k v))
+    sym (ap not (e ∙ free_offers (asked (goal.at.Else-out_of_service c).Start) c.requires.0 c.requires.1 (formed (goal.at.Else-out_of_service c).Else-not-moment) words.0 words.1 v l out) ∙ not-not (placed (walk (asked (goal.at.Else-out_of_service c).Start)) c.args.k v))
 
 either_placed : (c : Else-out_of_service)
     →         (placed (walk (asked (goal.at.Else-out_of_service c).Start)) c.args.k c.args.first.0 || placed (walk (asked (goal.at.Else-out_of_service c).Start)) c.args.k c.args.second.0)
@@ -104,7 +104,7 @@ either_placed c =
 
 past_1 : (c : Else-not-moment) → Past 1 (goal.at.Else-not-moment c).Start
 unfolding compare_tests
-past_1 c = tried_one (tried_none _) (ap not (sym (well (goal.at.Else-not-moment c).After-struct_known-3-1)) ∙ c.if-not-moment.false)
+past_1 c = tried_one (tried_none _) (ap not (sym (well (goal.at.Else-not-moment c).After-survey-moment)) ∙ c.if-not-moment.false)
 
 past_2 : (c : Else-outside) → Past 2 (goal.at.Else-outside c).Start
 unfolding compare_tests
@@ -121,7 +121,7 @@ past_4 c = tried_one (past_3 (goal.at.Else-taken c).Else-out_of_service) (either
 pub returns-then-not-moment : goal.returns-then-not-moment
 unfolding compare_tests number report_of
 returns-then-not-moment c =
-    report_refused (asked (goal.at.returns-then-not-moment c).Start) c.args.first.0 c.args.second.0 (refused_here (tried_none _) (ap not (sym (well (goal.at.returns-then-not-moment c).After-struct_known-3-1)) ∙ c.if-not-moment.true))
+    report_refused (asked (goal.at.returns-then-not-moment c).Start) c.args.first.0 c.args.second.0 (refused_here (tried_none _) (ap not (sym (well (goal.at.returns-then-not-moment c).After-survey-moment)) ∙ c.if-not-moment.true))
 
 pub returns-then-outside : goal.returns-then-outside
 unfolding compare_tests number report_of

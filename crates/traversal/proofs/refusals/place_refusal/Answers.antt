@@ -91,11 +91,11 @@ past_4 c = tried_one (past_3 (goal.at.Else-contains c).Else-n-v) (out_of_service
 
 past_5 : (c : Else-not-contains) → Past 5 (goal.at.Else-not-contains c).Start
 unfolding place_tests
-past_5 c = tried_one (past_4 (goal.at.Else-not-contains c).Else-contains) (not_true _ (unplaced (goal.at.Else-not-contains c).After-contains-2 ∙ not_false _ c.if-not-contains.false))
+past_5 c = tried_one (past_4 (goal.at.Else-not-contains c).Else-contains) (not_true _ (unplaced (goal.at.Else-not-contains c).After-contains-2 ∙ c.if-not-contains.false))
 
 past_6 : (c : Else-not-is_open) → Past 6 (goal.at.Else-not-is_open c).Start
 unfolding place_tests
-past_6 c = tried_one (past_5 (goal.at.Else-not-is_open c).Else-not-contains) (ap not (may_be_next (goal.at.Else-not-is_open c).After-is_open) ∙ c.if-not-is_open.false)
+past_6 c = tried_one (past_5 (goal.at.Else-not-is_open c).Else-not-contains) (ap not (may_be_next (goal.at.Else-not-is_open c).After-is_open ∙ c.if-not-is_open.false))
 
 pub returns-then-not-moment : goal.returns-then-not-moment
 unfolding place_answer place_tests number refusal_of
@@ -115,7 +115,7 @@ returns-then-contains c = refused_here (past_3 (goal.at.returns-then-contains c)
 
 pub returns-then-not-contains : goal.returns-then-not-contains
 unfolding place_answer place_tests number refusal_of
-returns-then-not-contains c = refused_here (past_4 (goal.at.returns-then-not-contains c).Else-contains) (not_false _ (unplaced (goal.at.returns-then-not-contains c).After-contains-2 ∙ not_true _ c.if-not-contains.true))
+returns-then-not-contains c = refused_here (past_4 (goal.at.returns-then-not-contains c).Else-contains) (not_false _ (unplaced (goal.at.returns-then-not-contains c).After-contains-2 ∙ c.if-not-contains.true))
 
 pub is_open-requires : goal.is_open-requires
 is_open-requires c =
@@ -123,7 +123,7 @@ is_open-requires c =
 
 pub returns-then-not-is_open : goal.returns-then-not-is_open
 unfolding place_answer place_tests number refusal_of
-returns-then-not-is_open c = refused_here (past_5 (goal.at.returns-then-not-is_open c).Else-not-contains) (ap not (may_be_next (goal.at.returns-then-not-is_open c).After-is_open) ∙ c.if-not-is_open.true)
+returns-then-not-is_open c = refused_here (past_5 (goal.at.returns-then-not-is_open c).Else-not-contains) (ap not (may_be_next (goal.at.returns-then-not-is_open c).After-is_open ∙ c.if-not-is_open.true))
 
 pub returns : goal.returns
 unfolding place_answer place_tests number refusal_of

@@ -66,7 +66,7 @@ is_open-requires c =
 
 -- what was asked of the entry at the place reached
 answered : (c : After-is_open)
-    →     let a = c.args in
+    → let a = c.args in
     c.is_open.result ≡ open_in (search_of a.kind.0) a.labels.now a.free.now (at a.tie_break.now (length a.tie_break.now - (c.loop-passed.passed + 1)))
 answered c =
     let a = c.args in

@@ -14,7 +14,7 @@ loop-i-init c = passed_start _ _
 
 -- what a turn says
 turn : (c : After-smallest-q)
-    →     FirstHere 512 (in_set c.args.set.now) c.loop-i.i c.smallest-q.result
+    → FirstHere 512 (in_set c.args.set.now) c.loop-i.i c.smallest-q.result
 turn c =
     let i = c.loop-i.i in
     first_here _ _ i _ (λ q h. in_word_at_lem _ i q c.loop-i-test.true h) _ (omega (arith, c.loop-i-test.true)) c.loop-i.invariant c.smallest-q.ensures

@@ -12,7 +12,7 @@ loop-i-init c = fronting_start _ _ _ _ refl refl
 
 pub loop-i-preserved : goal.loop-i-preserved
 loop-i-preserved c =
-    fronting_next _ _ c.loop-i.invariant c.loop-i-test.true c.common-word.ensures c.common-word.type-inv
+    fronting_next _ _ c.loop-i.invariant c.loop-i-test.true c.common-word.ensures c.common-word.type_inv
 
 pub returns-then-some : goal.returns-then-some
 returns-then-some c = fronting_some _ _ c.loop-i.invariant c.loop-i-test.false (subst (λ (b : Bool). T b) (sym c.if-some.true) tt)

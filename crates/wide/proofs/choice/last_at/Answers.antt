@@ -2,28 +2,30 @@
 -- Assumes nothing.
 use Prim.Native.Nat.{◌-◌}
 use mathlib.Core.Path.{◌≡◌, sym, ◌∙◌}
-use mathlib.Core.Logic.{inl, inr, ⊎_elim}
+use mathlib.Core.Logic.{inl, inr}
 use native.Mathlib.Omega.{arith}
 use Rattle.wide.proofs.Heaviest.{place_at, place_yes, place_no, highest_start, highest_next, highest_last}
 use Rattle.wide.proofs.choice.last_at.Goals as goal
-use Rattle.wide.proofs.choice.last_at.Goals.{Joined-weights-v}
+use Rattle.wide.proofs.choice.last_at.Goals.{Joined-weights-v, then-weights-v, else-weights-v, then-last-place, else-last-place}
 
 pub loop-v-init : goal.loop-v-init
 loop-v-init c = (highest_start _, omega arith)
 
 -- the place read is that of the vertex
 placed : (c : Joined-weights-v)
-    →     let a = c.args in
+    → let a = c.args in
     c.if-weights-v.place ≡ place_at a.weights.now a.ranks.now a.most c.loop-v.v
 placed c =
     let a = c.args in
-    ⊎_elim (λ t. t.2 ∙ sym (place_yes a.weights.now a.ranks.now a.most c.loop-v.v t.0.taken))
-    (λ t. t.1 ∙ sym (place_no a.weights.now a.ranks.now a.most c.loop-v.v t.0.left)) c.if-weights-v.branch
+    elim c.if-weights-v.branch [
+      | then-weights-v w ↦ w.place-is ∙ sym (place_yes a.weights.now a.ranks.now a.most c.loop-v.v w.if-weights-v.true)
+      | else-weights-v w ↦ w.place-is ∙ sym (place_no a.weights.now a.ranks.now a.most c.loop-v.v w.if-weights-v.false)
+    ]
 
 pub loop-v-preserved : goal.loop-v-preserved
 loop-v-preserved c =
     let next = highest_next c.loop-v.invariant.0 c.if-weights-v.place (placed (goal.at.loop-v-preserved c).Joined-weights-v) in (
-      ⊎_elim (λ t. next (omega (arith, t.0.taken, t.1)) (omega (arith, t.1)) (inl t.1)) (λ t. next (omega (arith, t.1)) (omega (arith, t.0.left, t.1)) (inr t.1)) c.if-last-place.branch,
+      elim c.if-last-place.branch [ then-last-place w ↦ next (omega arith) (omega arith) (inl w.last-is) | else-last-place w ↦ next (omega arith) (omega arith) (inr w.last-is) ],
       omega (arith, c.loop-v-test.true),
     )
 

@@ -39,6 +39,6 @@ loop-rest-preserved c =
 
 pub returns : goal.returns
 returns c = record {
-      vertex = c.loop-rest.invariant.vertex;
-      leads = joined_end _ _ _ _ _ _ c.loop-rest.invariant c.loop-rest-test.false;
-    }
+  vertex = c.loop-rest.invariant.vertex;
+  leads = joined_end _ _ _ _ _ _ c.loop-rest.invariant c.loop-rest-test.false;
+}

@@ -12,21 +12,21 @@ pub offset_bounds-tie_break-q : goal.offset_bounds-tie_break-q
 offset_bounds-tie_break-q c = omega (arith, c.requires.tie_break_len_bound.0, c.loop-q-test.true)
 
 pub overflow_cast-v : goal.overflow_cast-v
-overflow_cast-v c = omega (arith, c.shared_slice_known-1.given c.loop-q.q)
+overflow_cast-v c = omega (arith, c.type_inv.tie_break c.loop-q.q)
 
 pub overflow_cast-ranks : goal.overflow_cast-ranks
 overflow_cast-ranks c = omega (arith, c.requires.tie_break_len_bound.0, c.loop-q-test.true)
 
 pub offset_bounds-ranks-v : goal.offset_bounds-ranks-v
-offset_bounds-ranks-v c = omega (arith, c.requires.by_index.0 c.loop-q.q c.loop-q-test.true)
+offset_bounds-ranks-v c = omega (arith, c.requires.by_index c.loop-q.q c.loop-q-test.true)
 
 pub bounds-ranks-v : goal.bounds-ranks-v
-bounds-ranks-v c = c.requires.by_index.0 c.loop-q.q c.loop-q-test.true
+bounds-ranks-v c = c.requires.by_index c.loop-q.q c.loop-q-test.true
 
 pub loop-q-preserved : goal.loop-q-preserved
 loop-q-preserved c =
-    ranking_next _ c.requires.by_index.0 c.requires.by_index.1 c.loop-q.invariant c.loop-q-test.true
+    ranking_next _ c.requires.by_index c.requires.by_index_2 c.loop-q.invariant c.loop-q-test.true
 
 pub returns : goal.returns
 returns c =
-    ranking_end _ c.requires.by_index.0 c.requires.by_index.1 c.loop-q.invariant c.loop-q-test.false
+    ranking_end _ c.requires.by_index c.requires.by_index_2 c.loop-q.invariant c.loop-q-test.false

@@ -21,8 +21,8 @@ abbrev theirs : Start → ℕ → Bool
 theirs s = row_of s.args.labels.now s.args.b.0
 
 -- how they stand in the search that a byte names
-abbrev of-byte : Start → ℕ → Comparison
-of-byte s k = compared (search_of k) 512 (ours s) (theirs s)
+abbrev of_byte : Start → ℕ → Comparison
+of_byte s k = compared (search_of k) 512 (ours s) (theirs s)
 
 -- in MNS
 weighed_mns : (s : Start) → s.args.kind.0 ≡ 5 → Weighed mns s.args.labels.now s.args.weights.now
@@ -33,13 +33,13 @@ pub returns-then-search : goal.returns-then-search
 unfolding search_of row_of
 returns-then-search c =
     c.told_by.ensures ∙ lex_bfs_compared 512 (ours (goal.at.returns-then-search c).Start) (theirs (goal.at.returns-then-search c).Start) c.first_only-ours.ensures c.first_only-theirs.ensures
-    ∙ ap (of-byte (goal.at.returns-then-search c).Start) (sym c.if-search.true)
+    ∙ ap (of_byte (goal.at.returns-then-search c).Start) (sym c.if-search.true)
 
 pub returns-then-search-2 : goal.returns-then-search-2
 unfolding search_of row_of
 returns-then-search-2 c =
     c.told_by-then-search-2.ensures ∙ lex_dfs_compared 512 (ours (goal.at.returns-then-search-2 c).Start) (theirs (goal.at.returns-then-search-2 c).Start) c.last_only-ours.ensures c.last_only-theirs.ensures
-    ∙ ap (of-byte (goal.at.returns-then-search-2 c).Start) (sym c.if-search-2.true)
+    ∙ ap (of_byte (goal.at.returns-then-search-2 c).Start) (sym c.if-search-2.true)
 
 pub within-covered-requires : goal.within-covered-requires
 within-covered-requires c =
@@ -53,7 +53,7 @@ pub returns-then-search-3 : goal.returns-then-search-3
 unfolding search_of row_of
 returns-then-search-3 c =
     c.told_by-then-search-3.ensures ∙ mns_compared 512 (ours (goal.at.returns-then-search-3 c).Start) (theirs (goal.at.returns-then-search-3 c).Start) c.within-covers.ensures c.within-covered.ensures
-    ∙ ap (of-byte (goal.at.returns-then-search-3 c).Start) (sym c.if-search-3.true)
+    ∙ ap (of_byte (goal.at.returns-then-search-3 c).Start) (sym c.if-search-3.true)
 
 pub returns : goal.returns
 returns c =

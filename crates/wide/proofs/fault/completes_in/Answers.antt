@@ -2,14 +2,13 @@
 -- Assumes nothing.
 use Prim.Native.Nat.{ℕ, ◌<◌}
 use mathlib.Core.Path.{sym, subst}
-use mathlib.Core.Logic.{⊎_elim}
 use native.Mathlib.Omega.{arith}
 use lib.Dec.{T}
 use Rattle.bitset.specs.Word.{member}
 use Rattle.bitset.proofs.Scan.{scan_start, scan_next, scan_found, scan_end, first_member, removed_less, taken_out}
 use Rattle.wide.proofs.Starting.{completes_yes, completes_itself, completes_excused}
 use Rattle.wide.proofs.fault.completes_in.Goals as goal
-use Rattle.wide.proofs.fault.completes_in.Goals.{After-smallest}
+use Rattle.wide.proofs.fault.completes_in.Goals.{After-smallest, then-c-b+else-is_unexcused, else-c-b}
 
 -- the smallest number of what is left is in it
 found : (c : After-smallest) → (c.smallest.result < 64) × T (member c.loop-rest.rest c.smallest.result)
@@ -43,7 +42,7 @@ pub loop-rest-preserved : goal.loop-rest-preserved
 loop-rest-preserved c =
     rw (taken_out c.loop-rest.rest c.without_smallest-rest.ensures c.smallest.ensures)
     (scan_next c.loop-rest.invariant c.smallest.result
-    (λ _. ⊎_elim (λ t. completes_excused _ _ _ _ _ t.1.ensures t.2.left) (λ t. completes_itself _ _ _ _ _ t.left) c.if-c-b.branch))
+    (λ _. elim c.if-c-b.branch [ then-c-b+else-is_unexcused w ↦ completes_excused _ _ _ _ _ w.is_unexcused.ensures w.if-is_unexcused.false | else-c-b w ↦ completes_itself _ _ _ _ _ w.if-c-b.false ]))
 
 pub returns : goal.returns
 returns c = scan_end c.loop-rest.invariant c.loop-rest-test.false

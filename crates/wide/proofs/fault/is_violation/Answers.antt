@@ -1,7 +1,6 @@
 -- `wide::fault::is_violation` meets its contract: each test in turn.
 -- Assumes nothing.
 use native.Mathlib.Omega.{arith}
-use Rattle.bitset.proofs.Tests.{not_true, not_false}
 use Rattle.wide.proofs.Violating.{row_there, vertex_fits, turn_fits, unlinked, linked_both, placed_before, middle_itself, unexcused_violates}
 use Rattle.wide.proofs.fault.is_violation.Goals as goal
 
@@ -11,7 +10,7 @@ contains-requires c =
 
 pub returns-then-not-contains : goal.returns-then-not-contains
 returns-then-not-contains c =
-    unlinked c.requires.0 c.args.i.0 c.args.c.0 c.requires.1 c.requires.2 c.vertex_at-a.ensures c.contains.ensures (not_true c.contains.result c.if-not-contains.true)
+    unlinked c.requires.0 c.args.i.0 c.args.c.0 c.requires.1 c.requires.2 c.vertex_at-a.ensures c.contains.ensures c.if-not-contains.true
 
 pub contains-requires-2 : goal.contains-requires-2
 contains-requires-2 c =
@@ -23,7 +22,7 @@ returns-then-contains c =
 
 pub returns-then-not-in_set : goal.returns-then-not-in_set
 returns-then-not-in_set c =
-    placed_before c.requires.0 c.args.i.0 c.args.c.0 c.requires.1 c.requires.2 c.in_set.ensures (not_true c.in_set.result c.if-not-in_set.true)
+    placed_before c.requires.0 c.args.i.0 c.args.c.0 c.requires.1 c.requires.2 c.in_set.ensures c.if-not-in_set.true
 
 pub returns-then-c-b : goal.returns-then-c-b
 returns-then-c-b c =
@@ -36,5 +35,5 @@ is_unexcused-requires c =
 pub returns : goal.returns
 returns c =
     unexcused_violates c.requires.0 c.args.i.0 c.args.c.0 c.requires.1 c.requires.2 c.vertex_at-a.ensures c.vertex_at-b.ensures
-    c.contains.ensures (not_false c.contains.result c.if-not-contains.false) c.contains-2.ensures c.if-contains.false
-    c.in_set.ensures (not_false c.in_set.result c.if-not-in_set.false) c.if-c-b.false c.is_unexcused.ensures
+    c.contains.ensures c.if-not-contains.false c.contains-2.ensures c.if-contains.false
+    c.in_set.ensures c.if-not-in_set.false c.if-c-b.false c.is_unexcused.ensures

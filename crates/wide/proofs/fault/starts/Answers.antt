@@ -45,7 +45,7 @@ completes_in-requires c =
 
 -- whether a vertex of the word completes a violation
 answered : (c : After-completes_in)
-    →             let a = c.args in
+    → let a = c.args in
     c.completes_in.result ≡ starts_word (search_of a.kind.0) a.table.now a.labels.now a.free.now a.i.0 c.vertex_at-a.result.0 c.vertex_at-b.result.0 c.loop-word.word
 answered c =
     let a = c.args in

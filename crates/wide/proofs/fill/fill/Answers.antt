@@ -11,14 +11,11 @@ use Rattle.wide.proofs.fill.fill.Goals.{After-choose-v}
 pub rank-requires : goal.rank-requires
 rank-requires c =
     let b = c.requires.1 in
-    let whole = (
-      (omega (arith, b.graph.small, b.tie_break.full), refl),
-      (
-        λ q h. omega (arith, b.graph.small, b.tie_break.ordering.vertices q (omega (arith, h, b.tie_break.full))),
-        λ p q g h. b.tie_break.ordering.distinct p q g (omega (arith, h, b.tie_break.full)),
-      ),
-    ) in
-    record { tie_break_len_bound = whole.0; by_index = whole.1; by_index_2 = whole.2 }
+    record {
+      tie_break_len_bound = (omega (arith, b.graph.small, b.tie_break.full), refl);
+      by_index = λ q h. omega (arith, b.graph.small, b.tie_break.ordering.vertices q (omega (arith, h, b.tie_break.full)));
+      by_index_2 = λ p q g h. b.tie_break.ordering.distinct p q g (omega (arith, h, b.tie_break.full));
+    }
 
 pub overflow_sub-count : goal.overflow_sub-count
 overflow_sub-count c =

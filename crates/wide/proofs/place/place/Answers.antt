@@ -61,7 +61,7 @@ bounds-reached-i-in-loop-i c = omega (arith, inside (goal.at.bounds-reached-i-in
 pub spread-requires : goal.spread-requires
 spread-requires c =
     place_due c.requires c.include.ensures c.exclude.ensures c.clear.ensures.label c.loop-i.invariant c.loop-i-test.true refl c.common-grown.ensures
-    (c.shared_slice_known-in-loop-i-1.given (8 * c.args.vertex.0 + c.loop-i.i)).fits
+    (c.type_inv.table (8 * c.args.vertex.0 + c.loop-i.i)).fits
 
 pub overflow_step-i : goal.overflow_step-i
 overflow_step-i c = omega (arith, inside (goal.at.overflow_step-i c).In-loop-i)

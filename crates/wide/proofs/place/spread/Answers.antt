@@ -41,7 +41,7 @@ loop-rest-smaller c =
 pub loop-rest-preserved : goal.loop-rest-preserved
 loop-rest-preserved c =
     let r = c.raise in
-    spread_next c.requires c.loop-rest.invariant (found (goal.at.loop-rest-preserved c).After-smallest).0 (found (goal.at.loop-rest-preserved c).After-smallest).1 {labels' = r.new.1.1.1.1.0} r.ensures.0 (taken_out c.loop-rest.rest c.without_smallest-rest.ensures c.smallest.ensures) r.ensures.1
+    spread_next c.requires c.loop-rest.invariant (found (goal.at.loop-rest-preserved c).After-smallest).0 (found (goal.at.loop-rest-preserved c).After-smallest).1 {labels' = r.new.labels} r.ensures.labels (taken_out c.loop-rest.rest c.without_smallest-rest.ensures c.smallest.ensures) r.ensures.stored
 
 pub returns : goal.returns
 returns c =

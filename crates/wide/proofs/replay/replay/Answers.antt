@@ -13,13 +13,12 @@ pub vertex_at-b-requires : goal.vertex_at-b-requires
 vertex_at-b-requires c = omega (arith, c.loop-j-test.true, c.requires.ordering.long)
 
 pub is_beaten-requires : goal.is_beaten-requires
-is_beaten-requires c =
-    (
-      c.loop-j.invariant.staged.stored.weighed,
-      c.loop-j.invariant.staged.covers,
-      c.loop-j.invariant.staged.bare,
-      omega (arith, c.requires.graph.small, replay_vertex _ _ _ _ _ c.requires.graph c.requires.ordering c.loop-j.invariant c.loop-j-test.true c.vertex_at-b.ensures),
-    )
+is_beaten-requires c = (
+  c.loop-j.invariant.staged.stored.weighed,
+  c.loop-j.invariant.staged.covers,
+  c.loop-j.invariant.staged.bare,
+  omega (arith, c.requires.graph.small, replay_vertex _ _ _ _ _ c.requires.graph c.requires.ordering c.loop-j.invariant c.loop-j-test.true c.vertex_at-b.ensures),
+)
 
 pub returns-then-is_beaten : goal.returns-then-is_beaten
 returns-then-is_beaten c =

@@ -29,7 +29,7 @@ beaten_in-requires c =
 
 -- whether a free vertex of word i is ahead
 answered : (c : After-beaten_in)
-    →     let a = c.args in
+    → let a = c.args in
     c.beaten_in.result ≡ beats_word (search_of a.kind.0) a.labels.now a.free.now a.b.0 c.loop-i.i
 answered c =
     let a = c.args in

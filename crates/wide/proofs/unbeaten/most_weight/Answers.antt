@@ -2,11 +2,12 @@
 -- Assumes nothing.
 use Prim.Native.Nat.{◌-◌}
 use mathlib.Core.Path.{refl}
-use mathlib.Core.Logic.{inl, inr, ⊎_elim}
+use mathlib.Core.Logic.{inl, inr}
 use native.Mathlib.Omega.{arith}
 use lib.ListN.{get_or}
 use Rattle.wide.proofs.Heaviest.{highest_start, highest_next, highest_most}
 use Rattle.wide.proofs.unbeaten.most_weight.Goals as goal
+use Rattle.wide.proofs.unbeaten.most_weight.Goals.{then-most-weight, else-most-weight}
 
 pub loop-v-init : goal.loop-v-init
 loop-v-init c = (highest_start _, omega arith)
@@ -14,7 +15,7 @@ loop-v-init c = (highest_start _, omega arith)
 pub loop-v-preserved : goal.loop-v-preserved
 loop-v-preserved c =
     let next = highest_next c.loop-v.invariant.0 (get_or c.args.weights.now c.loop-v.v 0) refl in (
-      ⊎_elim (λ t. next (omega (arith, t.0.taken, t.1)) (omega (arith, t.1)) (inl t.1)) (λ t. next (omega (arith, t.1)) (omega (arith, t.0.left, t.1)) (inr t.1)) c.if-most-weight.branch,
+      elim c.if-most-weight.branch [ then-most-weight w ↦ next (omega arith) (omega arith) (inl w.most-is) | else-most-weight w ↦ next (omega arith) (omega arith) (inr w.most-is) ],
       omega (arith, c.loop-v-test.true),
     )
 
