@@ -9,6 +9,7 @@ pub mod Links
 pub mod ReadBack
 pub mod RoundTrip
 pub mod Onward
+pub mod Owning
 pub mod Parsing
 pub mod Longest
 pub mod Cut

@@ -1,6 +1,5 @@
 // The one reader of a sheet: its bytes, and how far they have been read. It is made once and goes from line to line; nothing else keeps an
-// offset. The prover does not cover functions over a struct that holds a slice, so these three are proved by hand. The bound 900000 only keeps
-// sums small: 10,065 steps of at most 13 bytes stay far below it.
+// offset. The bound 900000 only keeps sums small: 10,065 steps of at most 13 bytes stay far below it.
 ghost use Rattle.std.specs.Prelude.{◌≡◌, ◌+◌, ◌*◌, ◌<◌};
 ghost use Rattle.sheet.specs.Parsing.{advanced, advanced_by, blank, parsed_of};
 ghost use Rattle.lines.specs.Line.{Sound};

@@ -13,7 +13,7 @@ use lib.Dec.{T, eqb, ltb, eqb→eq, eqb_refl, ltb→lt, lt→ltb}
 use lib.ListN.{length, get_or, set, length-set}
 use lib.Seq.{get_or-set_same, get_or-set_other}
 use Rattle.bitset.specs.Word.{member, common, united}
-use Rattle.bitset.proofs.Tests.{and_out, and_same, or_inl, or_inr, or_out, decided, is_true, is_false, same_test}
+use Rattle.bitset.proofs.Tests.{and_out, and_same, or_inl, or_inr, or_out, decided, is_true, same_test}
 use Rattle.bitset.proofs.Word.{member_common, member_united, common_word}
 use Rattle.searches.specs.Kind.{Search}
 use Rattle.searches.specs.Table.{arcs_wide}

@@ -3,7 +3,6 @@
 use mathlib.Core.Path.{◌≡◌, sym, ap, ap₂, ◌∙◌}
 use mathlib.Core.Bool.{Bool, not, ◌||◌}
 use mathlib.Core.List.{List, [], ◌∷◌}
-use mathlib.Core.Logic.{⊎_elim}
 use mathlib.Core.Option.{none}
 use Prim.Native.Nat.{ℕ}
 use lib.ListN.{drop}
@@ -88,10 +87,10 @@ returns-then-vertex_outside c =
 
 pub repeated-requires : goal.repeated-requires
 repeated-requires c = record {
-      k_in_bounds = omega arith;
-      by_index = entries_fit _ (rows_fit _ _ _ _ (opened (goal.at.repeated-requires c).In_default))
+  k_in_bounds = omega arith;
+  by_index = entries_fit _ (rows_fit _ _ _ _ (opened (goal.at.repeated-requires c).In_default))
       (sym c.vertex_outside.ensures ∙ c.if-vertex_outside.false);
-    }
+}
 
 pub repeated-requires-2 : goal.repeated-requires-2
 repeated-requires-2 c =

@@ -16,7 +16,7 @@ first-tests c = open_tests c.args.kind.0 c.args.mark c.args.rows.now
 
 -- the tests on the graph do not hold, and the last one is that of the code
 last : (c : After-any_from)
-    →     Tried (open_tests_barring c.args.kind.0 c.args.mark c.args.rows.now c.args.barred) ((23, c.any_from.result) ∷ [])
+    → Tried (open_tests_barring c.args.kind.0 c.args.mark c.args.rows.now c.args.barred) ((23, c.any_from.result) ∷ [])
 unfolding open_tests_barring barred_outside from_up refusal_of
 last c =
     subst (λ (b : Bool). Tried (first-tests (goal.at.After-any_from c).After-graph_refusal-checked ++ (23, barred_outside (length c.args.rows.now) c.args.barred) ∷ []) ((23, b) ∷ [])) (sym c.any_from.ensures)

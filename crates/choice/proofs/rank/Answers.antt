@@ -13,7 +13,7 @@ unfolding ranks_below
 loop-q-init c = (c.requires.2, omega arith)
 
 pub overflow_cast-v : goal.overflow_cast-v
-overflow_cast-v c = omega (arith, c.shared_slice_known-1.given c.loop-q.q)
+overflow_cast-v c = omega (arith, c.type_inv.tie_break c.loop-q.q)
 
 pub overflow_cast-ranks : goal.overflow_cast-ranks
 overflow_cast-ranks c = omega (arith, c.requires.0, c.loop-q-test.true)

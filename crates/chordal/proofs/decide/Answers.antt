@@ -13,9 +13,9 @@ use Rattle.chordal.proofs.decide.Goals.{In_default}
 pub returns-in-Refused : goal.returns-in-Refused
 unfolding refusal_in answer_of refusal_of
 returns-in-Refused c = record {
-      answer = sym (ap refusal_of c.in-Refused.is) ∙ c.chordal_refusal-checked.ensures;
-      output = refl;
-    }
+  answer = sym (ap refusal_of c.in-Refused.is) ∙ c.chordal_refusal-checked.ensures;
+  output = refl;
+}
 
 accepted : (c : In_default)
     → let a = c.args in

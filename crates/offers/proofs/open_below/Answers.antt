@@ -1,6 +1,6 @@
 -- `offers::open_below` meets its contract: the set holds the open vertices that were passed.
 -- Assumes nothing.
-use Prim.Native.Nat.{ℕ, ◌-◌}
+use Prim.Native.Nat.{ℕ}
 use mathlib.Core.Path.{◌≡◌, refl, sym, ap, ◌∙◌}
 use native.Mathlib.Omega.{arith}
 use Rattle.searches.specs.Kind.{search_of}

@@ -20,7 +20,7 @@ vertex_at-requires c = omega (arith, c.requires)
 
 -- the bit that is looked at is the arc from the vertex before
 led : (c : After-contains)
-    →     let a = c.args in
+    → let a = c.args in
     c.contains.result ≡ label (arcs a.rows.now) a.ordering.now (at a.ordering.now a.position.0) c.loop-p.p
 unfolding arcs label
 led c =

@@ -61,9 +61,9 @@ overflow_add-count c = omega (arith, room c)
 
 pub write_path-requires : goal.write_path-requires
 write_path-requires c = record {
-      position_in_bounds = inside (goal.at.write_path-requires c).After-position_of-position;
-      count_in_bounds = room (goal.at.write_path-requires c).After-depth-count;
-    }
+  position_in_bounds = inside (goal.at.write_path-requires c).After-position_of-position;
+  count_in_bounds = room (goal.at.write_path-requires c).After-depth-count;
+}
 
 pub returns : goal.returns
 unfolding way_of

@@ -1,7 +1,7 @@
 -- `tables::count_in` meets its contract: the counts of the words in common.
 -- Assumes nothing.
 use mathlib.Core.Path.{◌≡◌, refl, ap, ◌∙◌}
-use Prim.Native.Nat.{ℕ, ◌*◌, ◌-◌}
+use Prim.Native.Nat.{ℕ, ◌*◌}
 use native.Mathlib.Omega.{arith}
 use Rattle.bitset.specs.Below.{count_below}
 use Rattle.bitset.specs.Word.{member}

@@ -1,6 +1,5 @@
 -- `tables::empty_row` meets its contract: the words of the row below the counter are empty.
 -- Assumes nothing.
-use Prim.Native.Nat.{◌-◌}
 use native.Mathlib.Omega.{arith}
 use Rattle.tables.proofs.Emptying.{emptying_start, emptying_next, emptying_end}
 use Rattle.tables.proofs.empty_row.Goals as goal

@@ -1,7 +1,7 @@
 -- `tables::first_only` meets its contract: the first word of the one row without the other that is not empty has it.
 -- Assumes nothing.
 use mathlib.Core.Path.{ap, ◌∙◌}
-use Prim.Native.Nat.{ℕ, ◌-◌}
+use Prim.Native.Nat.{ℕ}
 use native.Mathlib.Omega.{arith}
 use Rattle.bitset.specs.Below.{first_below, only}
 use Rattle.bitset.specs.Word.{member}

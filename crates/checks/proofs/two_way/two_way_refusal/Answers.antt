@@ -36,7 +36,7 @@ accepted c = sym (ap refusal_of c.in_default.is) ∙ c.graph_refusal-checked.ens
 
 -- they do not hold
 past : (c : In_default)
-    →     Tried (two_way_tests (mark_of (goal.at.In_default c).After-graph_refusal-checked) (rows_of (goal.at.In_default c).After-graph_refusal-checked)) ((25, not (is_two_way (mark_of (goal.at.In_default c).After-graph_refusal-checked))) ∷ (5, one_way (rows_of (goal.at.In_default c).After-graph_refusal-checked)) ∷ [])
+    → Tried (two_way_tests (mark_of (goal.at.In_default c).After-graph_refusal-checked) (rows_of (goal.at.In_default c).After-graph_refusal-checked)) ((25, not (is_two_way (mark_of (goal.at.In_default c).After-graph_refusal-checked))) ∷ (5, one_way (rows_of (goal.at.In_default c).After-graph_refusal-checked)) ∷ [])
 unfolding two_way_tests
 past c = tried_first (unmarked (rows_of (goal.at.In_default c).After-graph_refusal-checked)) _ (accepted c ∙ unmarked_first (rows_of (goal.at.In_default c).After-graph_refusal-checked))
 
@@ -60,7 +60,7 @@ one_way-requires c =
 
 -- nor does the test on the mark, and the last one is that of the code
 last : (c : After-one_way)
-    →     Tried (two_way_tests (mark_of (goal.at.After-one_way c).After-graph_refusal-checked) (rows_of (goal.at.After-one_way c).After-graph_refusal-checked)) ((5, c.one_way.result) ∷ [])
+    → Tried (two_way_tests (mark_of (goal.at.After-one_way c).After-graph_refusal-checked) (rows_of (goal.at.After-one_way c).After-graph_refusal-checked)) ((5, c.one_way.result) ∷ [])
 unfolding is_two_way
 last c =
     subst (λ (b : Bool). Tried (two_way_tests (mark_of (goal.at.After-one_way c).After-graph_refusal-checked) (rows_of (goal.at.After-one_way c).After-graph_refusal-checked)) ((5, b) ∷ [])) (sym c.one_way.ensures)

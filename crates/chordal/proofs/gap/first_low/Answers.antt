@@ -25,7 +25,7 @@ joined-across-requires c =
 
 -- what is asked is whether there is a gap
 asked : (c : After-joined-across)
-    →     let a = c.args in
+    → let a = c.args in
     (c.joined-inner.result && (c.joined-outer.result && not c.joined-across.result))
     ≡ is_gap (arcs a.rows.now) a.ordering.now a.top.0 a.middle.0 c.loop-i.i
 unfolding is_gap

@@ -26,7 +26,7 @@ vertex_at-vertex-requires c = omega (arith, c.requires.0.all.long, c.requires.1)
 
 -- what is asked is whether the position is the middle one of a gap
 asked : (c : After-subset-filled)
-    →     let a = c.args in
+    → let a = c.args in
     (c.contains-linked.result && not c.subset-filled.result)
     ≡ is_middle (arcs a.rows.now) a.ordering.now a.top.0 c.loop-j.j
 asked c =

@@ -14,7 +14,7 @@ use Rattle.plan_text.proofs.Texts.{text_short}
 use Rattle.dimacs.specs.Export.{edge_file, written, exported_of}
 use Rattle.dimacs.proofs.Exporting.{accepted_two_way, graph_refused, output_short, text_fits, export_refused, export_done, filled_part}
 use Rattle.dimacs.proofs.export.export.Goals as goal
-use Rattle.dimacs.proofs.export.export.Goals.{After-put-arg-1, After-write_plan-length, Else-output-length, In_default}
+use Rattle.dimacs.proofs.export.export.Goals.{After-write_plan-length, Else-output-length, In_default}
 
 pub returns-in-Refused : goal.returns-in-Refused
 unfolding refusal_of exported_of
@@ -60,12 +60,16 @@ returns-then-output-length c =
     (output_short a.mark a.rows.now a.output.now (accepted (goal.at.returns-then-output-length c).In_default) (omega (arith, c.if-output-length.true, (wrote (goal.at.returns-then-output-length c).After-write_plan-length).1))) in
     record { answer = whole.0; output = whole.1 }
 
+-- so it ends in the buffer
+inside : (c : After-write_plan-length) → c.write_plan-length.result ≤ length c.write_plan-length.new.output
+inside c =
+    omega (arith, (wrote c).1, short (goal.at.After-write_plan-length c).In_default, ap length (wrote c).0, length-sets buffer 0 (edge_file c.args.rows.now))
+
 pub slice_bounds-text-end : goal.slice_bounds-text-end
-slice_bounds-text-end c =
-    omega (arith, (wrote (goal.at.slice_bounds-text-end c).After-write_plan-length).1, short (goal.at.slice_bounds-text-end c).In_default, ap length (wrote (goal.at.slice_bounds-text-end c).After-write_plan-length).0, length-sets buffer 0 (edge_file c.args.rows.now))
+slice_bounds-text-end c = inside (goal.at.slice_bounds-text-end c).After-write_plan-length
 
 pub slice_bounds-put-end : goal.slice_bounds-put-end
-slice_bounds-put-end c = sym (length-take-le _ _ (slice_bounds-text-end (goal.at.slice_bounds-put-end c).After-put-arg-1))
+slice_bounds-put-end c = sym (length-take-le _ _ (inside (goal.at.slice_bounds-put-end c).After-write_plan-length))
 
 -- the output list has room
 enough : (c : Else-output-length) → let a = c.args in length (edge_file a.rows.now) ≤ length a.output.now

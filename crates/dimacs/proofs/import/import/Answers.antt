@@ -13,7 +13,7 @@ use Rattle.dimacs.specs.Import.{content, points, import_tests, read, imported_of
 use Rattle.dimacs.proofs.Tested.{Read}
 use Rattle.dimacs.proofs.Importing.{tests_decide, plan_read, room_left, import_refused, import_done}
 use Rattle.dimacs.proofs.import.import.Goals as goal
-use Rattle.dimacs.proofs.import.import.Goals.{After-drawing_refusal-checked, After-drawn-1, In_default}
+use Rattle.dimacs.proofs.import.import.Goals.{After-drawing_refusal-checked, In_default}
 
 -- the tests on what was read are those on the file
 decides : (c : After-drawing_refusal-checked) → let a = c.args in refusal_of c.drawing_refusal-checked.result ≡ first_refusal (import_tests a.file.now a.rows.now)
@@ -39,19 +39,23 @@ returns-in-Refused c =
     let whole = import_refused a.file.now a.rows.now (sym (ap refusal_of c.in-Refused.is) ∙ decides (goal.at.returns-in-Refused c).After-drawing_refusal-checked) in
     record { answer = whole.0; rows = whole.1 }
 
-pub slice_bounds-drawn-end : goal.slice_bounds-drawn-end
-slice_bounds-drawn-end c =
+-- there are as many rows as points
+drawn : (c : In_default) → c.read_lines-drawing.result.n ≤ length c.read_lines-drawing.result.rows
+drawn c =
     let full : length c.read_lines-drawing.result.rows ≡ 64 = search rules in
-    omega (arith, (plan (goal.at.slice_bounds-drawn-end c).In_default).few)
+    omega (arith, (plan c).few)
+
+pub slice_bounds-drawn-end : goal.slice_bounds-drawn-end
+slice_bounds-drawn-end c = drawn (goal.at.slice_bounds-drawn-end c).In_default
 
 pub slice_bounds-write_rows-end : goal.slice_bounds-write_rows-end
-slice_bounds-write_rows-end c = sym (length-take-le _ _ (slice_bounds-drawn-end (goal.at.slice_bounds-write_rows-end c).After-drawn-1))
+slice_bounds-write_rows-end c = sym (length-take-le _ _ (drawn (goal.at.slice_bounds-write_rows-end c).In_default))
 
 pub write_rows-requires : goal.write_rows-requires
 write_rows-requires c =
     let a = c.args in
     let n = c.read_lines-drawing.result.n in
-    let long : length (take n c.read_lines-drawing.result.rows) ≡ n = length-take-le _ _ (slice_bounds-drawn-end (goal.at.write_rows-requires c).After-drawn-1) in
+    let long : length (take n c.read_lines-drawing.result.rows) ≡ n = length-take-le _ _ (drawn (goal.at.write_rows-requires c).In_default) in
     let room : n ≤ length a.rows.now = omega (arith, (plan (goal.at.write_rows-requires c).In_default).points_read, room_left a.file.now a.rows.now (accepted (goal.at.write_rows-requires c).In_default)) in
     (subst (λ (m : ℕ). m ≤ 64) (sym long) (plan (goal.at.write_rows-requires c).In_default).few, subst (λ (m : ℕ). m ≤ length a.rows.now) (sym long) room)
 
@@ -62,7 +66,7 @@ returns c =
     let n = c.read_lines-drawing.result.n in
     let done = import_done a.file.now a.rows.now (accepted (goal.at.returns c).In_default) in
     let long : length (take n c.read_lines-drawing.result.rows) ≡ points (content a.file.now) =
-    length-take-le _ _ (slice_bounds-drawn-end (goal.at.returns c).After-drawn-1) ∙ (plan (goal.at.returns c).In_default).points_read
+    length-take-le _ _ (drawn (goal.at.returns c).In_default) ∙ (plan (goal.at.returns c).In_default).points_read
     in record {
       answer = ap read (plan (goal.at.returns c).In_default).points_read ∙ done.0;
       rows = c.write_rows.ensures ∙ ap₂ (λ (rows : List ℕ) (m : ℕ). rows ++ drop m a.rows.now) (plan (goal.at.returns c).In_default).rows_read long ∙ done.1;

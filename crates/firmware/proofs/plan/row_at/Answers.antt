@@ -2,7 +2,6 @@
 -- Assumes nothing.
 use Prim.Native.Nat.{◌+◌, ◌-◌, ◌*◌, ◌<◌, ◌^◌}
 use native.Mathlib.Omega.{arith}
-use lib.ListN.{get_or}
 use Rattle.firmware.proofs.Reading.{reading_start, reading_next, reading_fits, reading_end}
 use Rattle.firmware.proofs.plan.row_at.Goals as goal
 use Rattle.firmware.proofs.plan.row_at.Goals.{In-loop-b}

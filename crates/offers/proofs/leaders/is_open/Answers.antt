@@ -4,7 +4,7 @@ use mathlib.Core.Path.{◌≡◌, ap, ◌∙◌}
 use lib.Dec.{T}
 use lib.ListN.{get_or}
 use Rattle.bitset.specs.Word.{member}
-use Rattle.bitset.proofs.Tests.{not_true, not_false, said_true, said_false}
+use Rattle.bitset.proofs.Tests.{said_true, said_false}
 use Rattle.bitset.proofs.Word.{member_below}
 use Rattle.searches.specs.Kind.{search_of}
 use Rattle.labels.specs.Words.{profile_of}

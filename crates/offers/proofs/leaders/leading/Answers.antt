@@ -4,14 +4,12 @@
 use Prim.Native.Nat.{ℕ, ◌<◌, ◌^◌}
 use mathlib.Core.Path.{◌≡◌, sym, ap, ◌∙◌, subst}
 use mathlib.Core.Bool.{Bool, true, false, not, cond, ◌&&◌}
-use mathlib.Core.List.{List}
-use mathlib.Core.Logic.{◌≢◌}
 use native.Mathlib.Omega.{arith}
 use lib.Dec.{T}
 use lib.ListN.{get_or}
 use Rattle.bitset.specs.Word.{member, united}
 use Rattle.bitset.proofs.Scan.{first_member, removed_less, taken_out}
-use Rattle.searches.specs.Kind.{Search, mns, search_of}
+use Rattle.searches.specs.Kind.{Search, search_of}
 use Rattle.searches.specs.Comparison.{is_ahead, is_level}
 use Rattle.labels.specs.Words.{profile_of, ahead_in}
 use Rattle.labels.proofs.Comparison.{ahead_answered, level_answered}

@@ -84,7 +84,7 @@ in_service_lem c =
 
 -- who is not unplaced is placed
 stands_in_lem : (c : Else-out_of_service) (v : ℕ) {r : Bool}
-    →     v < c.args.n → (T (member c.args.barred v) → ⊥) → r ≡ member c.survey-moment.result.free v
+    → v < c.args.n → (T (member c.args.barred v) → ⊥) → r ≡ member c.survey-moment.result.free v
     → placed (walk (asked (goal.at.Else-out_of_service c).Start)) c.args.k v ≡ not r
 unfolding plan walk
 stands_in_lem c v l out e =
@@ -92,7 +92,7 @@ stands_in_lem c v l out e =
     sym (ap not (e ∙ free_offers (asked (goal.at.Else-out_of_service c).Start) c.requires.0 c.requires.1 (formed (goal.at.Else-out_of_service c).Else-not-moment) words.0 words.1 v l out) ∙ not-not (placed (walk (asked (goal.at.Else-out_of_service c).Start)) c.args.k v))
 
 either_placed : (c : Else-out_of_service)
-    →         (placed (walk (asked (goal.at.Else-out_of_service c).Start)) c.args.k c.args.first.0 || placed (walk (asked (goal.at.Else-out_of_service c).Start)) c.args.k c.args.second.0)
+    → (placed (walk (asked (goal.at.Else-out_of_service c).Start)) c.args.k c.args.first.0 || placed (walk (asked (goal.at.Else-out_of_service c).Start)) c.args.k c.args.second.0)
     ≡ (not c.contains-3.result || not c.contains-4.result)
 either_placed c =
     let a = c.args in
@@ -159,14 +159,14 @@ profile_of-b-requires c = (below_64 (goal.at.profile_of-b-requires c).Else-outsi
 
 -- what was looked at of the two are the profiles of their labels
 first_made : (c : After-profile_of-c)
-    →     let a = c.args in
+    → let a = c.args in
     c.profile_of-c.result ≡ profile_of (search_of a.kind.0) (get_or c.survey-moment.result.labels a.first.0 0)
 first_made c =
     let a = c.args in
     profile_kept (search_of a.kind.0) (weighed (goal.at.After-profile_of-c c).Else-not-moment) a.first.0 c.profile_of-c.ensures
 
 second_made : (c : After-profile_of-b)
-    →     let a = c.args in
+    → let a = c.args in
     c.profile_of-b.result ≡ profile_of (search_of a.kind.0) (get_or c.survey-moment.result.labels a.second.0 0)
 second_made c =
     let a = c.args in

@@ -44,7 +44,7 @@ formed c =
 
 -- whether none is left to place
 none_left : (c : Else-not-moment) (free : ℕ)
-    →     free ≡ c.survey-moment.result.free
+    → free ≡ c.survey-moment.result.free
     → (free ≡ 0 → eqb c.args.k (in_service (asked (goal.at.Else-not-moment c).Start)) ≡ true) × (0 < free → eqb c.args.k (in_service (asked (goal.at.Else-not-moment c).Start)) ≡ false)
 unfolding plan walk
 none_left c free e =
@@ -53,11 +53,11 @@ none_left c free e =
 
 -- whether the vertex is barred
 out_of_service : (c : After-contains)
-    →     member c.args.barred c.args.vertex.0 ≡ c.contains.result
+    → member c.args.barred c.args.vertex.0 ≡ c.contains.result
 out_of_service c = sym c.contains.ensures
 
 unplaced : (c : After-contains-2)
-    →     not (placed (walk (asked (goal.at.After-contains-2 c).Start)) c.args.k c.args.vertex.0) ≡ c.contains-2.result
+    → not (placed (walk (asked (goal.at.After-contains-2 c).Start)) c.args.k c.args.vertex.0) ≡ c.contains-2.result
 unfolding plan walk
 unplaced c =
     let words = surveyed_words (asked (goal.at.After-contains-2 c).Start) c.requires.0 c.requires.1 c.survey-moment.ensures (sound (goal.at.After-contains-2 c).Else-not-moment) in
@@ -65,7 +65,7 @@ unplaced c =
     ∙ free_offers (asked (goal.at.After-contains-2 c).Start) c.requires.0 c.requires.1 (formed (goal.at.After-contains-2 c).Else-not-moment) words.0 words.1 c.args.vertex.0 (omega arith) (said_false _ (sym (out_of_service (goal.at.After-contains-2 c).After-contains)) c.if-contains.false))
 
 may_be_next : (c : After-is_open)
-    →     offers (asked (goal.at.After-is_open c).Start) c.args.vertex.0 ≡ c.is_open.result
+    → offers (asked (goal.at.After-is_open c).Start) c.args.vertex.0 ≡ c.is_open.result
 unfolding plan walk
 may_be_next c =
     let words = surveyed_words (asked (goal.at.After-is_open c).Start) c.requires.0 c.requires.1 c.survey-moment.ensures (sound (goal.at.After-is_open c).Else-not-moment) in

@@ -1,6 +1,6 @@
 -- `wide::replay::all_below` meets its contract: word by word, the numbers of the word that are below n.
 -- Assumes nothing.
-use mathlib.Core.Path.{◌≡◌, refl, ◌∙◌}
+use mathlib.Core.Path.{◌≡◌, refl}
 use Prim.Native.Nat.{◌*◌, ◌-◌}
 use native.Mathlib.Omega.{arith}
 use Rattle.wide.proofs.Upto.{upto_start, upto_next}

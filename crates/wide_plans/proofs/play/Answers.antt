@@ -1,9 +1,0 @@
--- `wide_plans::play` lends words of the table that are there.
--- Assumes nothing.
-use mathlib.Core.Path.{sym}
-use lib.Seq.{length-take-le}
-use Rattle.wide_plans.proofs.play.Goals as goal
-use Rattle.wide_plans.proofs.play.Goals.{After-show_plan}
-
-pub slice_bounds-play_table-end : goal.slice_bounds-play_table-end
-slice_bounds-play_table-end c = sym (length-take-le _ _ (slice_bounds-table-end (goal.at.slice_bounds-play_table-end c).After-show_plan))

@@ -1,9 +1,0 @@
--- `wide_plans::refuse_lists` lends words of the table that are there.
--- Assumes nothing.
-use mathlib.Core.Path.{sym}
-use lib.Seq.{length-take-le}
-use Rattle.wide_plans.proofs.refuse_lists.Goals as goal
-use Rattle.wide_plans.proofs.refuse_lists.Goals.{After-show_plan}
-
-pub slice_bounds-refuse_on-end : goal.slice_bounds-refuse_on-end
-slice_bounds-refuse_on-end c = sym (length-take-le _ _ (slice_bounds-table-end (goal.at.slice_bounds-refuse_on-end c).After-show_plan))
