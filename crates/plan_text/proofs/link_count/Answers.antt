@@ -36,7 +36,7 @@ loop-c-preserved c =
     let rows = c.args.rows.now in
     let is = is_link rows c.loop-c.c in
     elim c.if-is_link.branch [
-      then-is_link w ↦
+      | then-is_link w ↦
           subst (λ (m : ℕ). Counting rows m (c.loop-c.c + 1)) (sym w.count-is)
           (counting_link c.loop-c.invariant c.loop-c-test.true (said_true is c.is_link.ensures w.if-is_link.true))
       | else-is_link w ↦

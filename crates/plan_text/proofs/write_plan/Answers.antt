@@ -98,7 +98,7 @@ pub loop-c-preserved : goal.loop-c-preserved
 loop-c-preserved c =
     let is = is_link (rows_of (goal.at.loop-c-preserved c).At-loop-c) c.loop-c.c in
     elim c.if-is_link.branch [
-      then-is_link w ↦
+      | then-is_link w ↦
           listing_link _ _ _ _ c.loop-c.invariant c.loop-c-test.true (said_true is c.is_link.ensures w.if-is_link.true)
           (w.output-is ∙ w.write_link-at.ensures.output) (w.at-is ∙ w.write_link-at.ensures.end)
       | else-is_link w ↦

@@ -36,7 +36,7 @@ begun_0 : (c : After-put_name-name) → Begun c.args.output.now (name (own (goal
 begun_0 c = begun_name c.args.output.now (own (goal.at.After-put_name-name c).Start) c.put_name-name.ensures.output c.put_name-name.ensures.end
 
 begun_1 : (c : After-put_clause-middle)
-    →     Begun c.args.output.now (text-1 (goal.at.After-put_clause-middle c).Start) c.put_clause-middle.new.output c.put_clause-middle.result 20
+    → Begun c.args.output.now (text-1 (goal.at.After-put_clause-middle c).Start) c.put_clause-middle.new.output c.put_clause-middle.result 20
 unfolding bytes
 begun_1 c =
     let x = c.args.violation.b.0 in
@@ -44,7 +44,7 @@ begun_1 c =
     c.put_clause-middle.ensures.end
 
 begun_2 : (c : After-put_clause-first)
-    →     Begun c.args.output.now (text-2 (goal.at.After-put_clause-first c).Start) c.put_clause-first.new.output c.put_clause-first.result 25
+    → Begun c.args.output.now (text-2 (goal.at.After-put_clause-first c).Start) c.put_clause-first.new.output c.put_clause-first.result 25
 unfolding bytes
 begun_2 c =
     let x = c.args.violation.a.0 in
@@ -52,7 +52,7 @@ begun_2 c =
     c.put_clause-first.ensures.end
 
 begun_3 : (c : After-put_clause-last)
-    →     Begun c.args.output.now (text-3 (goal.at.After-put_clause-last c).Start) c.put_clause-last.new.output c.put_clause-last.result 38
+    → Begun c.args.output.now (text-3 (goal.at.After-put_clause-last c).Start) c.put_clause-last.new.output c.put_clause-last.result 38
 unfolding bytes
 begun_3 c =
     let x = c.args.violation.c.0 in
@@ -60,7 +60,7 @@ begun_3 c =
     c.put_clause-last.ensures.end
 
 begun_4 : (c : After-put_clause-again)
-    →     Begun c.args.output.now (text-4 (goal.at.After-put_clause-again c).Start) c.put_clause-again.new.output c.put_clause-again.result 53
+    → Begun c.args.output.now (text-4 (goal.at.After-put_clause-again c).Start) c.put_clause-again.new.output c.put_clause-again.result 53
 unfolding bytes
 begun_4 c =
     let x = c.args.violation.b.0 in

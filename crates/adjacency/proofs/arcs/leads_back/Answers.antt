@@ -80,7 +80,7 @@ clash e = subst (λ (b : Bool). T (not b)) e tt
 
 -- the list of the neighbour ends at the offset that was looked up
 back_ends : (c : After-offset)
-    →     let a = c.args in
+    → let a = c.args in
     c.offset.result ≡ at a.offsets.now (suc c.neighbour-v.result)
 back_ends c =
     let a = c.args in
@@ -121,7 +121,7 @@ bounds-due-v-in-loop-e c = bit (goal.at.bounds-due-v-in-loop-e c).After-neighbou
 
 -- the vertex is due there
 room : (c : Else-offset-next)
-    →         at c.loop-e.due c.neighbour-v.result < at c.args.offsets.now (suc c.neighbour-v.result)
+    → at c.loop-e.due c.neighbour-v.result < at c.args.offsets.now (suc c.neighbour-v.result)
 room c = omega (arith, back_ends (goal.at.Else-offset-next c).After-offset, c.if-offset-next.false)
 
 pub overflow_add-due : goal.overflow_add-due

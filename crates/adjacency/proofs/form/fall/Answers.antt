@@ -17,7 +17,7 @@ loop-u-init c = passed_start _ _
 
 -- the two offsets that were compared
 compared : (c : After-offset-in-loop-u)
-    →     ltb c.offset.result c.offset-in-loop-u.result ≡ falls_at c.args.offsets.now c.loop-u.u
+    → ltb c.offset.result c.offset-in-loop-u.result ≡ falls_at c.args.offsets.now c.loop-u.u
 unfolding falls_at
 compared c =
     let offsets = c.args.offsets.now in

@@ -30,7 +30,7 @@ offset-end-requires c = omega (arith, vertex (goal.at.offset-end-requires c).In-
 
 -- its list ends at the next offset
 ends : (c : After-offset-end)
-    →     c.offset-end.result ≡ at c.args.offsets.now (suc c.loop-u.u)
+    → c.offset-end.result ≡ at c.args.offsets.now (suc c.loop-u.u)
 ends c = c.offset-end.ensures ∙ ap (λ (x : ℕ). at c.args.offsets.now x) (add-one c.loop-u.u)
 
 pub unsorted_in-requires : goal.unsorted_in-requires
@@ -39,7 +39,7 @@ unsorted_in-requires c =
 
 -- what was asked of its list
 told : (c : After-unsorted_in)
-    →     let a = c.args in
+    → let a = c.args in
     c.unsorted_in.result ≡ unsorted_at a.offsets.now a.neighbours.now c.loop-u.u
 unfolding unsorted_at
 told c =

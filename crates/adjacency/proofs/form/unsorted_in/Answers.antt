@@ -18,7 +18,7 @@ overflow_sub-e c = let l = c.loop-e in omega (arith, l.invariant.begun)
 
 -- the two numbers that were compared
 compared : (c : After-neighbour-in-loop-e)
-    →     let list = c.args.list.now in
+    → let list = c.args.list.now in
     leb c.neighbour.result c.neighbour-in-loop-e.result ≡ leb (at list c.loop-e.e) (at list (c.loop-e.e - 1))
 compared c = ap₂ (λ (x y : ℕ). leb x y) c.neighbour.ensures c.neighbour-in-loop-e.ensures
 

@@ -83,7 +83,7 @@ one_way-requires c = layout (goal.at.one_way-requires c).In_default
 
 -- the last test is that of the code
 last : (c : After-one_way)
-    →     c.one_way.result ≡ (is_two_way (mark_of (goal.at.After-one_way c).After-shared_slice_known-2-1) && one_way_in (size_of (offsets-of (goal.at.After-one_way c).After-shared_slice_known-2-1)) (arcs_listed (offsets-of (goal.at.After-one_way c).After-shared_slice_known-2-1) (neighbours-of (goal.at.After-one_way c).After-shared_slice_known-2-1)))
+    → c.one_way.result ≡ (is_two_way (mark_of (goal.at.After-one_way c).After-shared_slice_known-2-1) && one_way_in (size_of (offsets-of (goal.at.After-one_way c).After-shared_slice_known-2-1)) (arcs_listed (offsets-of (goal.at.After-one_way c).After-shared_slice_known-2-1) (neighbours-of (goal.at.After-one_way c).After-shared_slice_known-2-1)))
 unfolding is_two_way
 last c =
     c.one_way.ensures ∙ sym (ap (λ (m : Mark). is_two_way m && one_way_in (size_of (offsets-of (goal.at.After-one_way c).After-shared_slice_known-2-1)) (arcs_listed (offsets-of (goal.at.After-one_way c).After-shared_slice_known-2-1) (neighbours-of (goal.at.After-one_way c).After-shared_slice_known-2-1))) c.in_default-mark.is)

@@ -17,9 +17,9 @@ loop-at-init c = gathering_start _
 
 pub returns-then-not-drawing : goal.returns-then-not-drawing
 returns-then-not-drawing c = record {
-      drawing = gathering_stop _ c.loop-at.invariant (not_true _ c.if-not-drawing.true);
-      few = gathering_few _ c.loop-at.invariant (fits (goal.at.returns-then-not-drawing c).At-loop-at);
-    }
+  drawing = gathering_stop _ c.loop-at.invariant (not_true _ c.if-not-drawing.true);
+  few = gathering_few _ c.loop-at.invariant (fits (goal.at.returns-then-not-drawing c).At-loop-at);
+}
 
 pub next_line-step-requires : goal.next_line-step-requires
 next_line-step-requires c = c.loop-at-test.true
@@ -41,6 +41,6 @@ loop-at-preserved c =
 
 pub returns : goal.returns
 returns c = record {
-      drawing = gathering_end _ c.loop-at.invariant c.loop-at-test.false;
-      few = gathering_few _ c.loop-at.invariant (fits (goal.at.returns c).At-loop-at);
-    }
+  drawing = gathering_end _ c.loop-at.invariant c.loop-at-test.false;
+  few = gathering_few _ c.loop-at.invariant (fits (goal.at.returns c).At-loop-at);
+}

@@ -41,17 +41,17 @@ room_2 : (s : Start) → s.args.at + length (text-2 s) ≤ length (list_of s)
 room_2 s = front_room (list_of s) s.args.at (text-2 s) (shown (s.args.x / 10)) (room_3 s)
 
 written_1 : (c : After-put_unless_zero-hundreds)
-    →     Written (list_of (goal.at.After-put_unless_zero-hundreds c).Start) c.args.at (text-1 (goal.at.After-put_unless_zero-hundreds c).Start) c.put_unless_zero-hundreds.new.output c.put_unless_zero-hundreds.result
+    → Written (list_of (goal.at.After-put_unless_zero-hundreds c).Start) c.args.at (text-1 (goal.at.After-put_unless_zero-hundreds c).Start) c.put_unless_zero-hundreds.new.output c.put_unless_zero-hundreds.result
 written_1 c = record { bytes = c.put_unless_zero-hundreds.ensures.output; place = c.put_unless_zero-hundreds.ensures.end }
 
 written_2 : (c : After-put_unless_zero-tens)
-    →     Written (list_of (goal.at.After-put_unless_zero-tens c).Start) c.args.at (text-2 (goal.at.After-put_unless_zero-tens c).Start) c.put_unless_zero-tens.new.output c.put_unless_zero-tens.result
+    → Written (list_of (goal.at.After-put_unless_zero-tens c).Start) c.args.at (text-2 (goal.at.After-put_unless_zero-tens c).Start) c.put_unless_zero-tens.new.output c.put_unless_zero-tens.result
 written_2 c =
     written_more (list_of (goal.at.After-put_unless_zero-tens c).Start) c.args.at (text-1 (goal.at.After-put_unless_zero-tens c).Start) (shown (c.args.x / 10 / 10)) (written_1 (goal.at.After-put_unless_zero-tens c).After-put_unless_zero-hundreds) c.put_unless_zero-tens.ensures.output
     c.put_unless_zero-tens.ensures.end
 
 written_3 : (c : After-put_unless_zero-ones)
-    →     Written (list_of (goal.at.After-put_unless_zero-ones c).Start) c.args.at (text-3 (goal.at.After-put_unless_zero-ones c).Start) c.put_unless_zero-ones.new.output c.put_unless_zero-ones.result
+    → Written (list_of (goal.at.After-put_unless_zero-ones c).Start) c.args.at (text-3 (goal.at.After-put_unless_zero-ones c).Start) c.put_unless_zero-ones.new.output c.put_unless_zero-ones.result
 written_3 c =
     written_more (list_of (goal.at.After-put_unless_zero-ones c).Start) c.args.at (text-2 (goal.at.After-put_unless_zero-ones c).Start) (shown (c.args.x / 10)) (written_2 (goal.at.After-put_unless_zero-ones c).After-put_unless_zero-tens) c.put_unless_zero-ones.ensures.output
     c.put_unless_zero-ones.ensures.end

@@ -59,7 +59,7 @@ first_by_number-c-requires c =
 
 -- what the search by number says of position i
 starts : (c : After-first_by_number-c)
-    →     let a = c.args in
+    → let a = c.args in
     let test = first_in (search_of a.kind.0) (rows_of (goal.at.After-first_by_number-c c).Start) a.ordering.now a.labels.now a.free a.j.0 (length a.ordering.now) c.loop-i.i in
     (c.first_by_number-c.result.0 < 64 → T test) × (64 ≤ c.first_by_number-c.result.0 → T test → ⊥)
 starts c =

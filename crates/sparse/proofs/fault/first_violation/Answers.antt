@@ -23,7 +23,7 @@ rows_of s = rows_listed s.args.offsets.now s.args.neighbours.now
 
 -- the position that the first search found
 starts : (c : After-first_first-i)
-    →     let a = c.args in
+    → let a = c.args in
     let i = c.first_first-i.result.0 in
     (i < a.j.0) × T (first_in (search_of a.kind.0) (rows_of (goal.at.After-first_first-i c).Start) a.ordering.now a.labels.now a.free a.j.0 (length a.ordering.now) i)
 starts c =
@@ -50,7 +50,7 @@ profile_of-mine-requires c =
 
 -- what was looked at of the vertex is the profile of its label
 made : (c : After-profile_of-mine)
-    →     let a = c.args in
+    → let a = c.args in
     c.profile_of-mine.result ≡ profile_of (search_of a.kind.0) (get_or a.labels.now c.vertex_at-b.result.0 0)
 made c =
     profile_kept (search_of c.args.kind.0) c.requires.0.searchable.weighed c.vertex_at-b.result.0 c.profile_of-mine.ensures

@@ -44,7 +44,7 @@ layout c =
     valid_layout a.kind.0 a.mark a.offsets.now a.neighbours.now a.barred (none_accepts (first-tests (goal.at.In_default c).After-open_refusal-opened) (sym (opened c)))
 
 past_open : (c : In_default)
-    →     let a = c.args in
+    → let a = c.args in
     Tried (tests (goal.at.In_default c).After-open_refusal-opened) ((6, ltb (size_of a.offsets.now) (length a.ordering.now)) ∷ last-8 (goal.at.In_default c).After-open_refusal-opened)
 unfolding judge_tests_listed
 past_open c = tried_first (first-tests (goal.at.In_default c).After-open_refusal-opened) _ (opened c)

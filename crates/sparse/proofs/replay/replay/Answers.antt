@@ -49,7 +49,7 @@ is_open-requires c =
 
 -- whether the vertex is offered
 answered : (c : After-is_open)
-    →         c.is_open.result ≡ not (stops_at (search_of c.args.kind.0) (rows_of (goal.at.After-is_open c).Start) (all_of (goal.at.After-is_open c).Start) c.args.ordering.now c.loop-j.j)
+    → c.is_open.result ≡ not (stops_at (search_of c.args.kind.0) (rows_of (goal.at.After-is_open c).Start) (all_of (goal.at.After-is_open c).Start) c.args.ordering.now c.loop-j.j)
 answered c =
     let a = c.args in
     asked (search_of a.kind.0) (rows_of (goal.at.After-is_open c).Start) (all_of (goal.at.After-is_open c).Start) a.ordering.now (length a.ordering.now)

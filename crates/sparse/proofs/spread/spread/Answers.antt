@@ -75,7 +75,7 @@ long s =
 
 -- what is written of the vertex is what it has at the end
 due : (c : After-insert-label)
-    →     let a = c.args in
+    → let a = c.args in
     let v = c.smallest-v.result in
     (c.insert-label.result ≡ get_or (spread_to a.row a.position.0 a.labels.now) v 0)
     × (c.smallest_with-first.result ≡ get_or (smallest_to a.row a.position.0 a.smallest.now) v 0)

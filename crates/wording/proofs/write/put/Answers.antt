@@ -31,6 +31,6 @@ shape_of-output c = ap length c.loop-i.invariant.0.written ∙ length-sets c.arg
 
 pub returns : goal.returns
 returns c = record {
-      output = putting_end _ _ _ c.loop-i.invariant.0 c.loop-i-test.false;
-      end = refl;
-    }
+  output = putting_end _ _ _ c.loop-i.invariant.0 c.loop-i-test.false;
+  end = refl;
+}
