@@ -5,7 +5,7 @@ use native.Mathlib.Omega.{arith}
 use Rattle.adjacency.proofs.offset.Goals as goal
 
 pub overflow_cast-result : goal.overflow_cast-result
-overflow_cast-result c = omega (arith, c.shared_slice_known-1.given c.args.u)
+overflow_cast-result c = omega (arith, c.type_inv.offsets c.args.u)
 
 pub returns : goal.returns
 returns c = refl

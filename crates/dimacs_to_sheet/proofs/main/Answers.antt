@@ -7,4 +7,8 @@ use Rattle.dimacs_to_sheet.proofs.main.Goals as goal
 
 -- the sheet, or the number, fits
 pub slice_bounds-output-end : goal.slice_bounds-output-end
-slice_bounds-output-end c = let wrote = c.sheet_of-length in written_fits _ _ wrote.ensures.output wrote.ensures.length
+slice_bounds-output-end c = written_fits _ _ c.sheet_of-length.ensures.output c.sheet_of-length.ensures.length
+
+pub slice_bounds-write_all-end-2 : goal.slice_bounds-write_all-end-2
+slice_bounds-write_all-end-2 c =
+    sym (length-take-le _ _ (written_fits _ _ c.sheet_of-length.ensures.output c.sheet_of-length.ensures.length))

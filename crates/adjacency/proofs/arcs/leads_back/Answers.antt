@@ -66,7 +66,7 @@ bounds-due-v c = omega (arith, bit (goal.at.bounds-due-v c).After-neighbour-v)
 
 pub overflow_cast-next : goal.overflow_cast-next
 overflow_cast-next c =
-    omega (arith, c.loop-e.invariant.2.within c.neighbour-v.result (vertex (goal.at.overflow_cast-next c).After-neighbour-v), c.shared_slice_known-1.given (suc c.neighbour-v.result))
+    omega (arith, c.loop-e.invariant.2.within c.neighbour-v.result (vertex (goal.at.overflow_cast-next c).After-neighbour-v), c.type_inv.offsets (suc c.neighbour-v.result))
 
 pub overflow_add-v : goal.overflow_add-v
 overflow_add-v c = omega (arith, bit (goal.at.overflow_add-v c).After-neighbour-v)
@@ -126,7 +126,7 @@ room c = omega (arith, back_ends (goal.at.Else-offset-next c).After-offset, c.if
 
 pub overflow_add-due : goal.overflow_add-due
 overflow_add-due c =
-    omega (arith, room (goal.at.overflow_add-due c).Else-offset-next, c.shared_slice_known-1.given (suc c.neighbour-v.result))
+    omega (arith, room (goal.at.overflow_add-due c).Else-offset-next, c.type_inv.offsets (suc c.neighbour-v.result))
 
 pub offset_bounds-due-v-in-loop-e-2 : goal.offset_bounds-due-v-in-loop-e-2
 offset_bounds-due-v-in-loop-e-2 c = omega (arith, bit (goal.at.offset_bounds-due-v-in-loop-e-2 c).After-neighbour-v)
@@ -136,7 +136,7 @@ bounds-due-v-in-loop-e-2 c = bit (goal.at.bounds-due-v-in-loop-e-2 c).After-neig
 
 pub overflow_step-e : goal.overflow_step-e
 overflow_step-e c =
-    omega (arith, (here (goal.at.overflow_step-e c).In-loop-e).1, c.shared_slice_known-1.given (suc c.args.u))
+    omega (arith, (here (goal.at.overflow_step-e c).In-loop-e).1, c.type_inv.offsets (suc c.args.u))
 
 pub loop-e-preserved : goal.loop-e-preserved
 loop-e-preserved c =

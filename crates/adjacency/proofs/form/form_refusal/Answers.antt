@@ -14,57 +14,57 @@ use Rattle.checks.proofs.Tried.{Tried, tried_none, tried_one, refused_here, acce
 use Rattle.adjacency.specs.Layout.{size_of, falls_at, form_tests, IsCover}
 use Rattle.adjacency.proofs.Layouts.{cover_of}
 use Rattle.adjacency.proofs.form.form_refusal.Goals as goal
-use Rattle.adjacency.proofs.form.form_refusal.Goals.{After-shared_slice_known-2-1, Else-count-eq0, Else-fall, Else-offset-length, Else-offset-ne0, Else-unsorted}
+use Rattle.adjacency.proofs.form.form_refusal.Goals.{Else-count-eq0, Else-fall, Else-offset-length, Else-offset-ne0, Else-unsorted, Start}
 
-abbrev offsets-of : After-shared_slice_known-2-1 → List ℕ
-offsets-of c = c.args.offsets.now
+abbrev offsets_of : Start → List ℕ
+offsets_of c = c.args.offsets.now
 
-abbrev neighbours-of : After-shared_slice_known-2-1 → List ℕ
-neighbours-of c = c.args.neighbours.now
+abbrev neighbours_of : Start → List ℕ
+neighbours_of c = c.args.neighbours.now
 
 -- the first i cases do not hold
-abbrev Past : ℕ → After-shared_slice_known-2-1 → Type 0
-Past i c = Tried (form_tests (offsets-of c) (neighbours-of c)) (drop i (form_tests (offsets-of c) (neighbours-of c)))
+abbrev Past : ℕ → Start → Type 0
+Past i c = Tried (form_tests (offsets_of c) (neighbours_of c)) (drop i (form_tests (offsets_of c) (neighbours_of c)))
 
 -- each of them
 never : {b : Bool} → b ≡ false → T b → ⊥
 never e t = subst (λ (b : Bool). T b) e t
 
-not_empty : (c : Else-count-eq0) → eqb (length (offsets-of (goal.at.Else-count-eq0 c).After-shared_slice_known-2-1)) 0 ≡ false
+not_empty : (c : Else-count-eq0) → eqb (length (offsets_of (goal.at.Else-count-eq0 c).Start)) 0 ≡ false
 not_empty c = ne_eqb _ _ c.if-count-eq0.false
 
-starts : (c : Else-offset-ne0) → not (eqb (at (offsets-of (goal.at.Else-offset-ne0 c).After-shared_slice_known-2-1) 0) 0) ≡ false
+starts : (c : Else-offset-ne0) → not (eqb (at (offsets_of (goal.at.Else-offset-ne0 c).Start) 0) 0) ≡ false
 starts c = ap not (eq-eqb _ _ (sym c.offset.ensures ∙ c.if-offset-ne0.false))
 
-rises : (c : Else-fall) → any_below (size_of (offsets-of (goal.at.Else-fall c).After-shared_slice_known-2-1)) (falls_at (offsets-of (goal.at.Else-fall c).After-shared_slice_known-2-1)) ≡ false
+rises : (c : Else-fall) → any_below (size_of (offsets_of (goal.at.Else-fall c).Start)) (falls_at (offsets_of (goal.at.Else-fall c).Start)) ≡ false
 rises c = sym c.fall.ensures ∙ c.if-fall.false
 
-ends : (c : Else-offset-length) → not (eqb (at (offsets-of (goal.at.Else-offset-length c).After-shared_slice_known-2-1) (size_of (offsets-of (goal.at.Else-offset-length c).After-shared_slice_known-2-1))) (length (neighbours-of (goal.at.Else-offset-length c).After-shared_slice_known-2-1))) ≡ false
+ends : (c : Else-offset-length) → not (eqb (at (offsets_of (goal.at.Else-offset-length c).Start) (size_of (offsets_of (goal.at.Else-offset-length c).Start))) (length (neighbours_of (goal.at.Else-offset-length c).Start))) ≡ false
 unfolding size_of
 ends c = ap not (eq-eqb _ _ (sym c.offset-2.ensures ∙ c.if-offset-length.false))
 
-past_1 : (c : Else-count-eq0) → Past 1 (goal.at.Else-count-eq0 c).After-shared_slice_known-2-1
+past_1 : (c : Else-count-eq0) → Past 1 (goal.at.Else-count-eq0 c).Start
 unfolding form_tests
 past_1 c = tried_one (tried_none _) (not_empty c)
 
-past_2 : (c : Else-offset-ne0) → Past 2 (goal.at.Else-offset-ne0 c).After-shared_slice_known-2-1
+past_2 : (c : Else-offset-ne0) → Past 2 (goal.at.Else-offset-ne0 c).Start
 unfolding form_tests
 past_2 c = tried_one (past_1 (goal.at.Else-offset-ne0 c).Else-count-eq0) (starts c)
 
-past_3 : (c : Else-fall) → Past 3 (goal.at.Else-fall c).After-shared_slice_known-2-1
+past_3 : (c : Else-fall) → Past 3 (goal.at.Else-fall c).Start
 unfolding form_tests
 past_3 c = tried_one (past_2 (goal.at.Else-fall c).Else-offset-ne0) (rises c)
 
-past_4 : (c : Else-offset-length) → Past 4 (goal.at.Else-offset-length c).After-shared_slice_known-2-1
+past_4 : (c : Else-offset-length) → Past 4 (goal.at.Else-offset-length c).Start
 unfolding form_tests
 past_4 c = tried_one (past_3 (goal.at.Else-offset-length c).Else-fall) (ends c)
 
-past_5 : (c : Else-unsorted) → Past 5 (goal.at.Else-unsorted c).After-shared_slice_known-2-1
+past_5 : (c : Else-unsorted) → Past 5 (goal.at.Else-unsorted c).Start
 unfolding form_tests
 past_5 c = tried_one (past_4 (goal.at.Else-unsorted c).Else-offset-length) (sym c.unsorted.ensures ∙ c.if-unsorted.false)
 
 -- the offsets cover the neighbour list
-cover : (c : Else-offset-length) → IsCover (offsets-of (goal.at.Else-offset-length c).After-shared_slice_known-2-1) (neighbours-of (goal.at.Else-offset-length c).After-shared_slice_known-2-1)
+cover : (c : Else-offset-length) → IsCover (offsets_of (goal.at.Else-offset-length c).Start) (neighbours_of (goal.at.Else-offset-length c).Start)
 cover c =
     cover_of _ _ (never (not_empty (goal.at.Else-offset-length c).Else-count-eq0)) (never (starts (goal.at.Else-offset-length c).Else-offset-ne0)) (never (rises (goal.at.Else-offset-length c).Else-fall)) (never (ends c))
 

@@ -8,20 +8,19 @@ use Rattle.searches.specs.Ordering.{arcs}
 use Rattle.conversion.proofs.Neighbours.{neighbours_more}
 use Rattle.conversion.proofs.Writing.{neighbours_few, laying_start, laying_lengths, laying_room, laying_next, laying_end}
 use Rattle.conversion.proofs.lists.write_lists.Goals as goal
-use Rattle.conversion.proofs.lists.write_lists.Goals.{After-slice_known-in-loop-u-1, At-loop-u}
+use Rattle.conversion.proofs.lists.write_lists.Goals.{After-write_numbers-end, At-loop-u, In-loop-u}
 
 -- u is a vertex, and there are at most 64
-turn : (c : After-slice_known-in-loop-u-1)
-    → (c.loop-u.u < length c.args.rows.now) × (length c.args.rows.now ≤ 64)
+turn : (c : In-loop-u) → (c.loop-u.u < length c.args.rows.now) × (length c.args.rows.now ≤ 64)
 turn c = (c.loop-u-test.true, c.requires.0)
 
 -- so the position behind its neighbours fits an offset
-next_few : (c : After-slice_known-in-loop-u-1) → c.write_numbers-end.result ≤ 4096
+next_few : (c : After-write_numbers-end) → c.write_numbers-end.result ≤ 4096
 unfolding arcs
 next_few c =
     let rows = c.args.rows.now in
     let u = c.loop-u.u in
-    omega (arith, turn c, c.write_numbers-end.ensures.end, c.loop-u.invariant.place, neighbours_more rows u, neighbours_few rows (suc u))
+    omega (arith, turn (goal.at.After-write_numbers-end c).In-loop-u, c.write_numbers-end.ensures.end, c.loop-u.invariant.place, neighbours_more rows u, neighbours_few rows (suc u))
 
 -- the lists stay as long as they were
 as_long : (c : At-loop-u)
@@ -47,28 +46,28 @@ write_numbers-end-requires c =
     laying_room c.args.rows.now c.args.offsets.now c.args.neighbours.now c.requires.1 c.requires.2 c.loop-u.invariant c.loop-u-test.true
 
 pub overflow_cast-offsets : goal.overflow_cast-offsets
-overflow_cast-offsets c = omega (arith, next_few c)
+overflow_cast-offsets c = omega (arith, next_few (goal.at.overflow_cast-offsets c).After-write_numbers-end)
 
 pub overflow_add-offsets : goal.overflow_add-offsets
-overflow_add-offsets c = omega (arith, turn c)
+overflow_add-offsets c = omega (arith, turn (goal.at.overflow_add-offsets c).In-loop-u)
 
 pub offset_bounds-offsets-u : goal.offset_bounds-offsets-u
-offset_bounds-offsets-u c = omega (arith, turn c)
+offset_bounds-offsets-u c = omega (arith, turn (goal.at.offset_bounds-offsets-u c).In-loop-u)
 
 pub bounds-offsets-u : goal.bounds-offsets-u
 bounds-offsets-u c =
-    omega (arith, turn c, c.requires.1, as_long (goal.at.bounds-offsets-u c).At-loop-u)
+    omega (arith, turn (goal.at.bounds-offsets-u c).In-loop-u, c.requires.1, as_long (goal.at.bounds-offsets-u c).At-loop-u)
 
 pub overflow_step-u : goal.overflow_step-u
-overflow_step-u c = omega (arith, turn c)
+overflow_step-u c = omega (arith, turn (goal.at.overflow_step-u c).In-loop-u)
 
 pub loop-u-smaller : goal.loop-u-smaller
-loop-u-smaller c = omega (arith, turn c)
+loop-u-smaller c = omega (arith, turn (goal.at.loop-u-smaller c).In-loop-u)
 
 pub loop-u-preserved : goal.loop-u-preserved
 loop-u-preserved c =
     let written = c.write_numbers-end in
-    laying_next c.args.rows.now c.args.offsets.now c.args.neighbours.now c.requires.1 c.requires.2 c.loop-u.invariant (turn c).0
+    laying_next c.args.rows.now c.args.offsets.now c.args.neighbours.now c.requires.1 c.requires.2 c.loop-u.invariant (turn (goal.at.loop-u-preserved c).In-loop-u).0
     written.ensures.end written.ensures.list
 
 pub shape_of-offsets : goal.shape_of-offsets

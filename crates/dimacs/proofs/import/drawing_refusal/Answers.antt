@@ -13,37 +13,37 @@ use Rattle.dimacs.specs.declared.draw.Drawing.{Drawing}
 use Rattle.dimacs.proofs.import.drawing_refusal.Goals as goal
 use Rattle.dimacs.proofs.import.drawing_refusal.Goals.{Else-looped, Else-malformed, Else-n-gt64, Else-not-drawing, Start}
 
-abbrev drawing-of : Start → Drawing
-drawing-of c = c.args.drawing
+abbrev drawing_of : Start → Drawing
+drawing_of c = c.args.drawing
 
 abbrev size_of : Start → ℕ
 size_of c = c.args.size
 
 -- a p line comes first
 headed : (c : Else-not-drawing)
-    → let d = drawing-of (goal.at.Else-not-drawing c).Start in
+    → let d = drawing_of (goal.at.Else-not-drawing c).Start in
     Tried (drawing_tests d (size_of (goal.at.Else-not-drawing c).Start)) ((2, ltb 64 d.n) ∷ (27, not (d.sound && eqb d.edges d.m)) ∷ (4, d.looped) ∷ (10, ltb (size_of (goal.at.Else-not-drawing c).Start) d.n) ∷ [])
 unfolding drawing_tests
-headed c = tried_one (tried_none (drawing_tests (drawing-of (goal.at.Else-not-drawing c).Start) (size_of (goal.at.Else-not-drawing c).Start))) c.if-not-drawing.false
+headed c = tried_one (tried_none (drawing_tests (drawing_of (goal.at.Else-not-drawing c).Start) (size_of (goal.at.Else-not-drawing c).Start))) c.if-not-drawing.false
 
 small : (c : Else-n-gt64)
-    → let d = drawing-of (goal.at.Else-n-gt64 c).Start in
+    → let d = drawing_of (goal.at.Else-n-gt64 c).Start in
     Tried (drawing_tests d (size_of (goal.at.Else-n-gt64 c).Start)) ((27, not (d.sound && eqb d.edges d.m)) ∷ (4, d.looped) ∷ (10, ltb (size_of (goal.at.Else-n-gt64 c).Start) d.n) ∷ [])
 small c = tried_one (headed (goal.at.Else-n-gt64 c).Else-not-drawing) (le-ltb _ _ c.if-n-gt64.false)
 
 formed : (c : Else-malformed)
-    → let d = drawing-of (goal.at.Else-malformed c).Start in
+    → let d = drawing_of (goal.at.Else-malformed c).Start in
     Tried (drawing_tests d (size_of (goal.at.Else-malformed c).Start)) ((4, d.looped) ∷ (10, ltb (size_of (goal.at.Else-malformed c).Start) d.n) ∷ [])
 formed c = tried_one (small (goal.at.Else-malformed c).Else-n-gt64) (ap not c.if-malformed.false)
 
 loopless : (c : Else-looped)
-    → let d = drawing-of (goal.at.Else-looped c).Start in
+    → let d = drawing_of (goal.at.Else-looped c).Start in
     Tried (drawing_tests d (size_of (goal.at.Else-looped c).Start)) ((10, ltb (size_of (goal.at.Else-looped c).Start) d.n) ∷ [])
 loopless c = tried_one (formed (goal.at.Else-looped c).Else-malformed) c.if-looped.false
 
 pub returns-then-not-drawing : goal.returns-then-not-drawing
 unfolding number refusal_of drawing_tests
-returns-then-not-drawing c = refused_here (tried_none (drawing_tests (drawing-of (goal.at.returns-then-not-drawing c).Start) (size_of (goal.at.returns-then-not-drawing c).Start))) c.if-not-drawing.true
+returns-then-not-drawing c = refused_here (tried_none (drawing_tests (drawing_of (goal.at.returns-then-not-drawing c).Start) (size_of (goal.at.returns-then-not-drawing c).Start))) c.if-not-drawing.true
 
 pub returns-then-n-gt64 : goal.returns-then-n-gt64
 unfolding number refusal_of

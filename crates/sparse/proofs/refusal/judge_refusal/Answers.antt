@@ -18,46 +18,46 @@ use Rattle.sparse.proofs.Same.{valid_layout}
 use Rattle.sparse.proofs.refusal.judge_refusal.Goals as goal
 use Rattle.sparse.proofs.refusal.judge_refusal.Goals.{After-open_refusal-opened, Else-n-length, Else-repeated, Else-vertex_outside, In_default}
 
-abbrev first-tests : After-open_refusal-opened → List (ℕ × Bool)
-first-tests c = let a = c.args in open_tests_listed a.kind.0 a.mark a.offsets.now a.neighbours.now a.barred
+abbrev first_tests : After-open_refusal-opened → List (ℕ × Bool)
+first_tests c = let a = c.args in open_tests_listed a.kind.0 a.mark a.offsets.now a.neighbours.now a.barred
 
 abbrev tests : After-open_refusal-opened → List (ℕ × Bool)
 tests c = let a = c.args in judge_tests_listed a.kind.0 a.mark a.offsets.now a.neighbours.now a.barred a.ordering.now
 
 -- those that are still to be tried, last ones first
-abbrev last-24 : After-open_refusal-opened → List (ℕ × Bool)
-last-24 c = let a = c.args in (24, barred_named a.barred a.ordering.now (length a.ordering.now)) ∷ []
+abbrev last_24 : After-open_refusal-opened → List (ℕ × Bool)
+last_24 c = let a = c.args in (24, barred_named a.barred a.ordering.now (length a.ordering.now)) ∷ []
 
-abbrev last-9 : After-open_refusal-opened → List (ℕ × Bool)
-last-9 c = let a = c.args in (9, repeated a.ordering.now (length a.ordering.now)) ∷ last-24 c
+abbrev last_9 : After-open_refusal-opened → List (ℕ × Bool)
+last_9 c = let a = c.args in (9, repeated a.ordering.now (length a.ordering.now)) ∷ last_24 c
 
-abbrev last-8 : After-open_refusal-opened → List (ℕ × Bool)
-last-8 c = let a = c.args in (8, vertex_outside (size_of a.offsets.now) a.ordering.now (length a.ordering.now)) ∷ last-9 c
+abbrev last_8 : After-open_refusal-opened → List (ℕ × Bool)
+last_8 c = let a = c.args in (8, vertex_outside (size_of a.offsets.now) a.ordering.now (length a.ordering.now)) ∷ last_9 c
 
-opened : (c : In_default) → none ≡ first_refusal (first-tests (goal.at.In_default c).After-open_refusal-opened)
+opened : (c : In_default) → none ≡ first_refusal (first_tests (goal.at.In_default c).After-open_refusal-opened)
 unfolding refusal_of
 opened c = sym (ap refusal_of c.in_default.is) ∙ c.open_refusal-opened.ensures
 
 layout : (c : In_default) → let a = c.args in IsLayout a.offsets.now a.neighbours.now
 layout c =
     let a = c.args in
-    valid_layout a.kind.0 a.mark a.offsets.now a.neighbours.now a.barred (none_accepts (first-tests (goal.at.In_default c).After-open_refusal-opened) (sym (opened c)))
+    valid_layout a.kind.0 a.mark a.offsets.now a.neighbours.now a.barred (none_accepts (first_tests (goal.at.In_default c).After-open_refusal-opened) (sym (opened c)))
 
 past_open : (c : In_default)
     → let a = c.args in
-    Tried (tests (goal.at.In_default c).After-open_refusal-opened) ((6, ltb (size_of a.offsets.now) (length a.ordering.now)) ∷ last-8 (goal.at.In_default c).After-open_refusal-opened)
+    Tried (tests (goal.at.In_default c).After-open_refusal-opened) ((6, ltb (size_of a.offsets.now) (length a.ordering.now)) ∷ last_8 (goal.at.In_default c).After-open_refusal-opened)
 unfolding judge_tests_listed
-past_open c = tried_first (first-tests (goal.at.In_default c).After-open_refusal-opened) _ (opened c)
+past_open c = tried_first (first_tests (goal.at.In_default c).After-open_refusal-opened) _ (opened c)
 
-past_6 : (c : Else-n-length) → Tried (tests (goal.at.Else-n-length c).After-open_refusal-opened) (last-8 (goal.at.Else-n-length c).After-open_refusal-opened)
+past_6 : (c : Else-n-length) → Tried (tests (goal.at.Else-n-length c).After-open_refusal-opened) (last_8 (goal.at.Else-n-length c).After-open_refusal-opened)
 unfolding size_of
 past_6 c = tried_one (past_open (goal.at.Else-n-length c).In_default) (le-ltb _ _ c.if-n-length.false)
 
-past_8 : (c : Else-vertex_outside) → Tried (tests (goal.at.Else-vertex_outside c).After-open_refusal-opened) (last-9 (goal.at.Else-vertex_outside c).After-open_refusal-opened)
+past_8 : (c : Else-vertex_outside) → Tried (tests (goal.at.Else-vertex_outside c).After-open_refusal-opened) (last_9 (goal.at.Else-vertex_outside c).After-open_refusal-opened)
 unfolding size_of
 past_8 c = tried_one (past_6 (goal.at.Else-vertex_outside c).Else-n-length) (sym c.vertex_outside.ensures ∙ c.if-vertex_outside.false)
 
-past_9 : (c : Else-repeated) → Tried (tests (goal.at.Else-repeated c).After-open_refusal-opened) (last-24 (goal.at.Else-repeated c).After-open_refusal-opened)
+past_9 : (c : Else-repeated) → Tried (tests (goal.at.Else-repeated c).After-open_refusal-opened) (last_24 (goal.at.Else-repeated c).After-open_refusal-opened)
 past_9 c = tried_one (past_8 (goal.at.Else-repeated c).Else-vertex_outside) (sym c.repeated.ensures ∙ c.if-repeated.false)
 
 pub open_refusal-opened-requires : goal.open_refusal-opened-requires
@@ -66,7 +66,7 @@ open_refusal-opened-requires c = tt
 pub returns-in-Refused : goal.returns-in-Refused
 unfolding judge_tests_listed refusal_of
 returns-in-Refused c =
-    refused_before (first-tests (goal.at.returns-in-Refused c).After-open_refusal-opened) _
+    refused_before (first_tests (goal.at.returns-in-Refused c).After-open_refusal-opened) _
     (sym (ap refusal_of c.in-Refused.is) ∙ c.open_refusal-opened.ensures)
 
 pub overflow_sub-n : goal.overflow_sub-n

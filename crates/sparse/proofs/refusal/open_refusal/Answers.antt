@@ -14,28 +14,28 @@ use Rattle.adjacency.specs.Layout.{size_of, listed_tests}
 use Rattle.conversion.proofs.Accepted.{listed_layout}
 use Rattle.sparse.specs.Judge.{open_tests_listed}
 use Rattle.sparse.proofs.refusal.open_refusal.Goals as goal
-use Rattle.sparse.proofs.refusal.open_refusal.Goals.{After-any_from, After-struct_known-2-1, Else-kind, In_default}
+use Rattle.sparse.proofs.refusal.open_refusal.Goals.{After-any_from, Else-kind, In_default, Start}
 
-abbrev list-tests : After-struct_known-2-1 → List (ℕ × Bool)
-list-tests c = let a = c.args in listed_tests a.mark a.offsets.now a.neighbours.now
+abbrev list_tests : Start → List (ℕ × Bool)
+list_tests c = let a = c.args in listed_tests a.mark a.offsets.now a.neighbours.now
 
-abbrev tests : After-struct_known-2-1 → List (ℕ × Bool)
+abbrev tests : Start → List (ℕ × Bool)
 tests c = let a = c.args in open_tests_listed a.kind.0 a.mark a.offsets.now a.neighbours.now a.barred
 
-abbrev last-test : After-struct_known-2-1 → List (ℕ × Bool)
-last-test c = let a = c.args in (23, barred_outside (size_of a.offsets.now) a.barred) ∷ []
+abbrev last_test : Start → List (ℕ × Bool)
+last_test c = let a = c.args in (23, barred_outside (size_of a.offsets.now) a.barred) ∷ []
 
 -- the kind is known
-past_1 : (c : Else-kind) → Tried (tests (goal.at.Else-kind c).After-struct_known-2-1) (list-tests (goal.at.Else-kind c).After-struct_known-2-1 ++ last-test (goal.at.Else-kind c).After-struct_known-2-1)
+past_1 : (c : Else-kind) → Tried (tests (goal.at.Else-kind c).Start) (list_tests (goal.at.Else-kind c).Start ++ last_test (goal.at.Else-kind c).Start)
 unfolding open_tests_listed
 past_1 c = tried_one (tried_none _) (le-ltb _ _ c.if-kind.false)
 
-listed : (c : In_default) → none ≡ first_refusal (list-tests (goal.at.In_default c).After-struct_known-2-1)
+listed : (c : In_default) → none ≡ first_refusal (list_tests (goal.at.In_default c).Start)
 unfolding refusal_of
 listed c = sym (ap refusal_of c.in_default.is) ∙ c.layout_refusal-checked.ensures
 
-past_lists : (c : In_default) → Tried (tests (goal.at.In_default c).After-struct_known-2-1) (last-test (goal.at.In_default c).After-struct_known-2-1)
-past_lists c = tried_list (list-tests (goal.at.In_default c).After-struct_known-2-1) (last-test (goal.at.In_default c).After-struct_known-2-1) (past_1 (goal.at.In_default c).Else-kind) (listed c)
+past_lists : (c : In_default) → Tried (tests (goal.at.In_default c).Start) (last_test (goal.at.In_default c).Start)
+past_lists c = tried_list (list_tests (goal.at.In_default c).Start) (last_test (goal.at.In_default c).Start) (past_1 (goal.at.In_default c).Else-kind) (listed c)
 
 pub returns-then-kind : goal.returns-then-kind
 unfolding open_tests_listed number refusal_of
@@ -47,7 +47,7 @@ layout_refusal-checked-requires c = tt
 pub returns-in-Refused : goal.returns-in-Refused
 unfolding refusal_of
 returns-in-Refused c =
-    refused_list (list-tests (goal.at.returns-in-Refused c).After-struct_known-2-1) (last-test (goal.at.returns-in-Refused c).After-struct_known-2-1) (past_1 (goal.at.returns-in-Refused c).Else-kind) (sym (ap refusal_of c.in-Refused.is) ∙ c.layout_refusal-checked.ensures)
+    refused_list (list_tests (goal.at.returns-in-Refused c).Start) (last_test (goal.at.returns-in-Refused c).Start) (past_1 (goal.at.returns-in-Refused c).Else-kind) (sym (ap refusal_of c.in-Refused.is) ∙ c.layout_refusal-checked.ensures)
 
 pub overflow_sub-offsets : goal.overflow_sub-offsets
 overflow_sub-offsets c =

@@ -10,14 +10,14 @@ use Rattle.searches.specs.Kind.{search_of}
 use Rattle.wording.specs.Text.{bytes}
 use Rattle.wording.proofs.Named.{row_long, row_named, name_short}
 use Rattle.wording.proofs.table.put_name.Goals as goal
-use Rattle.wording.proofs.table.put_name.Goals.{After-put-arg-1}
 
 pub slice_bounds-row-end : goal.slice_bounds-row-end
 unfolding bytes
 slice_bounds-row-end c = row_long c.args.kind.0 c.requires.0
 
 pub slice_bounds-put-end : goal.slice_bounds-put-end
-slice_bounds-put-end c = sym (length-take-le _ _ (slice_bounds-row-end (goal.at.slice_bounds-put-end c).After-put-arg-1))
+unfolding bytes
+slice_bounds-put-end c = sym (length-take-le _ _ (row_long c.args.kind.0 c.requires.0))
 
 pub put-requires : goal.put-requires
 unfolding bytes
