@@ -109,7 +109,7 @@ module _ {offsets neighbours : List ℕ} (x : IsLayout offsets neighbours) where
             → (q < at due v) ⊎ ((q ≡ at due v) ⊎ (at due v < q)) → ⊥
         other out q b h names (inl less) = fresh (d.looked u v neighbour_vertex (record { position = q; begun = b; before = less; names = names }))
         other out q b h names (inr (inl same)) =
-            ⊎_elim (λ late. omega arith) (λ not-u. not-u (ap (λ (y : ℕ). at neighbours y) (sym same) ∙ names)) missed
+            ⊎_elim (λ late. omega arith) (λ not_u. not_u (ap (λ (y : ℕ). at neighbours y) (sym same) ∙ names)) missed
         other out q b h names (inr (inr more)) =
             let y = at neighbours (at due v) in
             let began = d.begun v neighbour_vertex in
@@ -162,8 +162,8 @@ module _ {offsets neighbours : List ℕ} (x : IsLayout offsets neighbours) where
             where
               new : m.position ≡ at due y → Looked offsets neighbours (suc e) a y
               new here =
-                  let is-u : u ≡ a = sym names ∙ ap (λ (z : ℕ). at neighbours z) (ap (λ (z : ℕ). at due z) (sym more.0) ∙ sym here) ∙ m.names in
-                  subst (λ (z : ℕ). Looked offsets neighbours (suc e) z y) is-u (record { position = e; before = omega arith; begun = begun; within = before; names = sym more.0 })
+                  let is_u : u ≡ a = sym names ∙ ap (λ (z : ℕ). at neighbours z) (ap (λ (z : ℕ). at due z) (sym more.0) ∙ sym here) ∙ m.names in
+                  subst (λ (z : ℕ). Looked offsets neighbours (suc e) z y) is_u (record { position = e; before = omega arith; begun = begun; within = before; names = sym more.0 })
 
       met_next : (a y : ℕ) → y < n → Looked offsets neighbours (suc e) a y → Met offsets neighbours due' a y
       met_next a y l k = ⊎_elim old new (below_suc e k.position k.before)
@@ -175,13 +175,13 @@ module _ {offsets neighbours : List ℕ} (x : IsLayout offsets neighbours) where
 
           new : k.position ≡ e → Met offsets neighbours due' a y
           new here =
-              let is-v : v ≡ y = ap (λ (z : ℕ). at neighbours z) (sym here) ∙ k.names in
-              let is-u : u ≡ a = sym (owner a (omega (arith, k.begun)) (omega (arith, k.within)) (of a (omega (arith, k.within)))) in
-              subst (λ (z : ℕ). Met offsets neighbours due' a z) is-v (record {
+              let is_v : v ≡ y = ap (λ (z : ℕ). at neighbours z) (sym here) ∙ k.names in
+              let is_u : u ≡ a = sym (owner a (omega (arith, k.begun)) (omega (arith, k.within)) (of a (omega (arith, k.within)))) in
+              subst (λ (z : ℕ). Met offsets neighbours due' a z) is_v (record {
                 position = at due v;
                 begun = d.begun v neighbour_vertex;
                 before = let s : at due' v ≡ at due v + 1 = get_or-set_same due v (at due v + 1) 0 vertex_bit in omega arith;
-                names = names ∙ is-u;
+                names = names ∙ is_u;
               })
             where
               of : (b : ℕ) → e < at offsets (suc b) → b < n

@@ -1,11 +1,11 @@
 -- Entries of lists, and what holds between each entry and each later one.
---   among-*              which entries a list has that was put together, kept in part or turned round
+--   among_*              which entries a list has that was put together, kept in part or turned round
 --   among_position, position_among   an entry stands at some position
---   pairwise-*           what holds between its entries
+--   pairwise_*           what holds between its entries
 --   order_backward       a list in any order is so from its other end too
 --   Earlier r u u'       u comes before u' in the ordering r
 --   order_listed, listed_earlier   the entries of a full ordering at which a test holds, kept in the ordering's order
---   full_list_in, full_list_out      fullList: a full ordering
+--   full_list_in, full_list_out      full_list: a full ordering
 -- Assumes nothing.
 use mathlib.Core.Path.{◌≡◌, refl, sym, subst}
 use mathlib.Core.Bool.{Bool, true, false, cond, not, ◌&&◌}

@@ -1,7 +1,7 @@
 -- What the searches below a bound mean.
 --   Some n f               a number below n at which f holds
---   any_out, any_in        anyBelow: there is one;      all_out, all_in   all_below: at every number
---   first-*                firstBelow: f holds there, and nowhere below;   last-*   last_below likewise from the other end
+--   any_out, any_in        any_below: there is one;      all_out, all_in   all_below: at every number
+--   first_*                first_below: f holds there, and nowhere below;   last_*   last_below likewise from the other end
 --   first_bottom           the search with the lowest number taken apart
 -- Assumes nothing.
 use mathlib.Core.Path.{◌≡◌, refl, sym, ap, ap₂, ◌∙◌, subst}

@@ -34,8 +34,8 @@ highest_decides k {a} {b} ha hb {m} out inside agree = go (below_or a b)
     go : (a < b) ⊎ (b ≤ a) → a < b
     go (inl l) = l
     go (inr l) =
-        let a-digit : a / 2 ^ m % 2 ≡ 0 = bit_of_member a m ∙ ap (λ (t : Bool). cond t 1 0) (is_false (member a m) out) in
-        let b-digit : b / 2 ^ m % 2 ≡ 1 = bit_of_member b m ∙ ap (λ (t : Bool). cond t 1 0) (is_true (member b m) inside) in
+        let a_digit : a / 2 ^ m % 2 ≡ 0 = bit_of_member a m ∙ ap (λ (t : Bool). cond t 1 0) (is_false (member a m) out) in
+        let b_digit : b / 2 ^ m % 2 ≡ 1 = bit_of_member b m ∙ ap (λ (t : Bool). cond t 1 0) (is_true (member b m) inside) in
         absurd (omega (arith, above, shr_mono m l))
 
 -- of two words that differ, the one that has the highest number in which they differ is the greater

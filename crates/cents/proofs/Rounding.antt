@@ -5,7 +5,7 @@
 --   rounded_rounds       the formula rounds
 --   rounds_alone         and only one number does
 --   halves_up_largest    with halves up it is the largest that is at most half of d away
---   even_up_in, even_up_out   the rule `halvesToEven` rounds up exactly where the larger one is even
+--   even_up_in, even_up_out   the rule `halves_to_even` rounds up exactly where the larger one is even
 --   to_even_in, to_even_out   with this rule, what is rounded is the nearest, and of two nearest the even one; and only then
 --   halfway_even         where x / d is halfway between q and q + 1 and q is even, this is q
 --   below_halves_up      where a rule does not give what halves up gives, x / d is halfway, and it gives one less
@@ -121,8 +121,8 @@ module _ (d : ℕ) (positive : 0 < d) (x : ℕ) where
         upper_rounds q low high
         (λ m s half.
         let last : q - 1 ≡ m = omega arith in
-        let never-down : T (not (rule (q - 1))) → ⊥ = λ t. subst (λ (b : Bool). T b) (sym e) (and_in (not (rule (q - 1))) (halfway d x q) t (halfway_in q half)) in
-        subst (λ (i : ℕ). T (rule i)) last (not_not (rule (q - 1)) (not_T (not (rule (q - 1))) never-down)))
+        let never_down : T (not (rule (q - 1))) → ⊥ = λ t. subst (λ (b : Bool). T b) (sym e) (and_in (not (rule (q - 1))) (halfway d x q) t (halfway_in q half)) in
+        subst (λ (i : ℕ). T (rule i)) last (not_not (rule (q - 1)) (not_T (not (rule (q - 1))) never_down)))
 
     pub rounded_rounds : Rounds rule d x (rounded rule d x)
     unfolding rounded quotient

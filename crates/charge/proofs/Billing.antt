@@ -1,4 +1,4 @@
--- What 02 asks of the charge, over the definitions that the promises of `charge` and `charge_halves_up` cite: `chargeToEvenAnswer` and `chargeAnswer`.
+-- What 02 asks of the charge, over the definitions that the promises of `charge` and `charge_halves_up` cite: `charge_to_even_answer` and `charge_answer`.
 -- Each theorem's comment says which sentence it is; the work is done in the modules that the proofs cite. That nothing is altered: all lists are passed
 -- as `&`. That the calls end is part of their proofs.
 -- Assumes nothing.

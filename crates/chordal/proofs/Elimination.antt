@@ -47,8 +47,8 @@ module _ (arc : ℕ → ℕ → Bool) (n : ℕ) (symmetric : Symmetric arc n) wh
           same = sym there.2;
           others = λ q h other.
               let y = place q h in
-              let no-earlier = first_earliest n on y.0 (placed_in c m (at e y.0) q h (sym y.2)) in
-              (y.0, lt_of_le-ne no-earlier (λ same. other (same_position n cycle.distinct q there.0 h there.1 (sym y.2 ∙ ap (λ (z : ℕ). at e z) (sym same) ∙ sym there.2))), y.1, y.2);
+              let no_earlier = first_earliest n on y.0 (placed_in c m (at e y.0) q h (sym y.2)) in
+              (y.0, lt_of_le-ne no_earlier (λ same. other (same_position n cycle.distinct q there.0 h there.1 (sym y.2 ∙ ap (λ (z : ℕ). at e z) (sym same) ∙ sym there.2))), y.1, y.2);
         }
       where
         -- the vertex there is on the cycle
@@ -166,17 +166,17 @@ module _ (arc : ℕ → ℕ → Bool) (n : ℕ) (symmetric : Symmetric arc n) wh
         → Gap arc w n (first_low arc w l (first_middle arc w l)) (first_middle arc w l) l
     unfolding first_top first_middle first_low is_top is_middle is_gap
     first_gap l is inside =
-        let l-holds = (first n (is_top arc w)).holds (subst (λ (x : ℕ). x < n) is inside) in
+        let l_holds = (first n (is_top arc w)).holds (subst (λ (x : ℕ). x < n) is inside) in
         let j = first_below l (is_middle arc w l) in
-        let j-found = first_found (any_out l (is_middle arc w l) (subst (λ (x : ℕ). T (is_top arc w x)) (sym is) l-holds)) in
-        let j-holds = (first l (is_middle arc w l)).holds j-found in
+        let j_found = first_found (any_out l (is_middle arc w l) (subst (λ (x : ℕ). T (is_top arc w x)) (sym is) l_holds)) in
+        let j_holds = (first l (is_middle arc w l)).holds j_found in
         let i = first_below j (is_gap arc w l j) in
-        let i-found = first_found (any_out j (is_gap arc w l j) j-holds) in
-        let x = and_out (joined arc w j l) (joined arc w i l && not (joined arc w i j)) ((first j (is_gap arc w l j)).holds i-found) in
+        let i_found = first_found (any_out j (is_gap arc w l j) j_holds) in
+        let x = and_out (joined arc w j l) (joined arc w i l && not (joined arc w i j)) ((first j (is_gap arc w l j)).holds i_found) in
         let y = and_out (joined arc w i l) (not (joined arc w i j)) x.1 in
         record {
-          low = i-found;
-          high = j-found;
+          low = i_found;
+          high = j_found;
           inside = inside;
           outer = y.0;
           inner = x.0;

@@ -120,7 +120,7 @@ pub sentences_read : map (λ (text : String). read_sentence (bytes text)) (
 unfolding first_below search_of digit_value bytes is_digit value_from value name is_other front behind same search_named verdict_told read_sentence
 sentences_read = refl
 
--- one of the examples has 50 bytes, and none can have more (`written-short` of `wording`)
+-- one of the examples has 50 bytes, and none can have more (`written_short` of `wording`)
 pub longest_told : length (bytes "Generic fails at 11: 10 leads to 12 and not to 11.") ≡ 50
 unfolding bytes
 longest_told = refl

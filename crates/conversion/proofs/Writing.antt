@@ -1,10 +1,10 @@
 -- The loops of the conversions, turn by turn.
 --   neighbours_few                      the first u vertices have at most 64 neighbours each
 --   Counting rows count u               the neighbours of the first u vertices are counted;   counting_start, counting_next, counting_end
---   Numbering row begin list₀ list end rest   the numbers of `row` that are not in `rest` are written from `begin` on, up to `end`;   numbering-*
+--   Numbering row begin list₀ list end rest   the numbers of `row` that are not in `rest` are written from `begin` on, up to `end`;   numbering_*
 --   front_more                          a list that is written from the front on: one entry more
---   Laying rows offsets₀ neighbours₀ offsets neighbours end u   the lists of the first u vertices are written, and the offsets up to u's;   laying-*
---   Copying rows copy₀ copy u           the first u rows are written;   copying-*
+--   Laying rows offsets₀ neighbours₀ offsets neighbours end u   the lists of the first u vertices are written, and the offsets up to u's;   laying_*
+--   Copying rows copy₀ copy u           the first u rows are written;   copying_*
 -- Assumes nothing.
 use Prim.Native.Nat.{ℕ, zero, suc, ◌+◌, ◌-◌, ◌*◌, ◌^◌, ◌≤◌, ◌<◌}
 use mathlib.Core.Path.{◌≡◌, refl, sym, ap, ap₂, ◌∙◌, subst}

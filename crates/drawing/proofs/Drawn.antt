@@ -125,8 +125,8 @@ module _ (b : List ℕ) where
       go (inl a) =
           let accepted = accepts_none (import_tests b blank) a in
           let rows = drawn_rows (content b) in
-          let two-way = two_way_accepted rows (valid_drawn (accepted_out b blank accepted) 0 (omega arith)) in
-          omega (arith, ap length (sheet_read accepted ∙ sym (sheet_text_lem rows)), text_room rows two-way Format.Sheet)
+          let two_way = two_way_accepted rows (valid_drawn (accepted_out b blank accepted) 0 (omega arith)) in
+          omega (arith, ap length (sheet_read accepted ∙ sym (sheet_text_lem rows)), text_room rows two_way Format.Sheet)
       go (inr x) = omega (arith, ap length (sheet_refused x.0 (sym (refuses_import b blank x.0 x.1))), line_long x.0)
 
   pub written_fits : (out : List ℕ) {out' : List ℕ} {m : ℕ} → out' ≡ sheet_in b out → m ≡ sheet_length b out → m ≤ length out'

@@ -79,8 +79,8 @@ module _ (words b : List ℕ) where
   tests_out : T (is_pair words b) → PairTests words b
   unfolding is_pair
   tests_out t =
-      let all-five = and_out (((begun && first) && spaced) && second) ended t in
-      let four = and_out ((begun && first) && spaced) second all-five.0 in
+      let all_five = and_out (((begun && first) && spaced) && second) ended t in
+      let four = and_out ((begun && first) && spaced) second all_five.0 in
       let three = and_out (begun && first) spaced four.0 in
       let two = and_out begun first three.0 in
       record {
@@ -88,7 +88,7 @@ module _ (words b : List ℕ) where
         first = two.1;
         spaced = eqb→eq (at (behind_first words b) 0) 32 three.1;
         second = four.1;
-        ended = empty_out (behind_second words b) (eqb→eq (length (behind_second words b)) 0 all-five.1);
+        ended = empty_out (behind_second words b) (eqb→eq (length (behind_second words b)) 0 all_five.1);
       }
 
 -- ---- a pair that is written
@@ -144,10 +144,10 @@ module _ (words b : List ℕ) where
   unfolding pair_text first_digits behind_first second_digits behind_second
   pair_out t =
       let p = tests_out words b t in
-      let behind-gap : drop 1 (behind_first words b) ≡ decimal (value (second_digits words b)) =
+      let behind_gap : drop 1 (behind_first words b) ≡ decimal (value (second_digits words b)) =
       sym (front_behind is_digit (drop 1 (behind_first words b))) ∙ ap (λ (l : List ℕ). second_digits words b ++ l) p.ended
       ∙ append-nil (second_digits words b) ∙ sym (second_numeral p)
       in
       begins_out words b p.begun
       ∙ ap (λ (l : List ℕ). words ++ l) (sym (front_behind is_digit (drop (length words) b))
-      ∙ ap₂ (λ (d l : List ℕ). d ++ l) (sym (first_numeral p)) (head_out (behind_first words b) p.spaced ∙ ap (λ (l : List ℕ). 32 ∷ l) behind-gap))
+      ∙ ap₂ (λ (d l : List ℕ). d ++ l) (sym (first_numeral p)) (head_out (behind_first words b) p.spaced ∙ ap (λ (l : List ℕ). 32 ∷ l) behind_gap))

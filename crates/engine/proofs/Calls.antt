@@ -4,7 +4,7 @@
 --   fault_there, fault_judged         where the replay stops there is a violation, and the first one is judge's verdict
 --   stopped_fails, ended_passes, whole_ended, along_ended, whole_filled, filled_carried   what extend answers and leaves
 --   moment_refused, moment_stopped, moment_ended   what after hands back
---   judge-asked-*, carryOn-asked-*    the answers of the calls, and that the graph is valid, from the checks' answer
+--   judge_asked_*, carry_on_asked_*    the answers of the calls, and that the graph is valid, from the checks' answer
 -- Assumes nothing.
 use mathlib.Core.Path.{◌≡◌, refl, sym, ap, ap₂, ◌∙◌, subst}
 use mathlib.Core.Bool.{Bool, true, false, cond, not}

@@ -1,7 +1,7 @@
 -- The unplaced vertices, the labels and their weights after an ordering, for a caller that continues it.
 --   no_moment                      for an ordering that does not pass: no vertex, empty labels, no weight
 --   moment_of s rows barred w      the unplaced vertices that are not barred, the labels and their weights after all of w
---   moment_after kind mark rows barred w   `momentOf` where judge passes w, else `noMoment`
+--   moment_after kind mark rows barred w   `moment_of` where judge passes w, else `no_moment`
 use Rattle.std.specs.Prelude.{ℕ, true, false, cond, List, map, length, replicate}
 use Rattle.searches.specs.Kind.{Search, search_of}
 use Rattle.searches.specs.Answer.{is_pass, judge_barring}

@@ -3,7 +3,7 @@
 --   Reading         the loop of `row_at`: the upper bytes of the row of u, from place b on, are read
 --   Decoding        the loop of `decode`: the rows below u are written
 --   rows_count      a plan of m bytes holds m / 8 rows
---   part-*          so many stand at the front of the array
+--   part_*          so many stand at the front of the array
 -- Assumes nothing.
 use Prim.Native.Nat.{ℕ, zero, suc, ◌+◌, ◌-◌, ◌*◌, ◌/◌, ◌^◌, ◌≤◌, ◌<◌}
 use mathlib.Core.Path.{◌≡◌, refl, sym, ap, ◌∙◌}

@@ -3,7 +3,7 @@
 --   bfs_words, lex_dfs_words, mns_words, generic_words   BFS by the first positions, and the others: what is compared is what ahead_in says
 --   ranked_words, mns_compared                   what is told of these tests is what compared_in says
 --   ahead_answered, level_answered               what that says of who is ahead, and of who is level
---   unexcused-*                             likewise for unexcused_in
+--   unexcused_*                             likewise for unexcused_in
 --   of_kind, search_of_other, search_of_mns   from a kind byte to its search
 -- Assumes nothing.
 use mathlib.Core.Path.{◌≡◌, refl, sym, ap, ap₂, ◌∙◌, subst}

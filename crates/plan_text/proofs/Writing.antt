@@ -2,8 +2,8 @@
 --   piece_room, front_room                 there is room for the next piece of a text, and for the front of a text, where there is room for the text
 --   pair_pieces                            a line with two numbers, piece by piece
 --   sheet_head, sheet_link                 a line of a sheet, written to a list of its length
---   Counting rows count c                  the links below c are counted;   counting-*
---   Listing format rows l begin out at c   the lines of the links below c are written from `begin` on, up to `at`;   listing-*
+--   Counting rows count c                  the links below c are counted;   counting_*
+--   Listing format rows l begin out at c   the lines of the links below c are written from `begin` on, up to `at`;   listing_*
 -- Assumes nothing.
 use Prim.Native.Nat.{ℕ, suc, ◌+◌, ◌*◌, ◌/◌, ◌%◌, ◌≤◌, ◌<◌}
 use mathlib.Core.Path.{◌≡◌, refl, sym, ap, ◌∙◌, subst}

@@ -1,6 +1,6 @@
 -- A two-way graph written as text: a line with its size, then a line for each link, smaller vertex first, ascending.
 --   head_text format n m     the first line, for n vertices and m links
---   link_text format c       the line of the link with number c, 64 u + v (`linkList` of `sheet`)
+--   link_text format c       the line of the link with number c, 64 u + v (`link_list` of `sheet`)
 --   plan_text format rows    the whole text: as a DIMACS edge file [02: K13, export], or as a sheet with an empty walk [01: the sheet]
 --   shown y                 the last digit of y, and nothing where y is 0: a digit before the last one of a number
 --   room                    as many bytes as such a text can have: 15 for the first line, 9 for each of 2016 links

@@ -24,8 +24,8 @@ module _ (arc : ℕ → ℕ → Bool) (w : List ℕ) (start : ℕ) where
   -- one step more
   stepped : {q up : ℕ} (m : ℕ) → q ≡ ancestor arc w start m → up ≡ parent arc w q → up ≡ ancestor arc w start (m + 1)
   unfolding ancestor
-  stepped m here of-parent =
-      of-parent ∙ ap (λ (p : ℕ). parent arc w p) here ∙ ap (λ (i : ℕ). ancestor arc w start i) (sym (add-one m))
+  stepped m here of_parent =
+      of_parent ∙ ap (λ (p : ℕ). parent arc w p) here ∙ ap (λ (i : ℕ). ancestor arc w start i) (sym (add-one m))
 
   -- ---- how many steps there are
 
@@ -43,18 +43,18 @@ module _ (arc : ℕ → ℕ → Bool) (w : List ℕ) (start : ℕ) where
   -- whether the vertex has a parent is whether the step leads elsewhere
   asked : {q up m : ℕ} → Climbing q m → up ≡ parent arc w q → is_root arc w (ancestor arc w start m) ≡ eqb up q
   unfolding is_root
-  asked {q} {up} {m} c of-parent =
-      ap (λ (p : ℕ). eqb (parent arc w p) p) (sym c.here) ∙ ap (λ (p : ℕ). eqb p q) (sym of-parent)
+  asked {q} {up} {m} c of_parent =
+      ap (λ (p : ℕ). eqb (parent arc w p) p) (sym c.here) ∙ ap (λ (p : ℕ). eqb p q) (sym of_parent)
 
   pub climbing_next : {q up m : ℕ} → Climbing q m → m < start → up ≡ parent arc w q → (up ≡ q → ⊥) → Climbing up (m + 1)
-  climbing_next {q} {up} {m} c l of-parent other = record {
-    here = stepped m c.here of-parent;
-    passed = passed_more c.passed l (asked c of-parent ∙ ne_eqb up q other);
+  climbing_next {q} {up} {m} c l of_parent other = record {
+    here = stepped m c.here of_parent;
+    passed = passed_more c.passed l (asked c of_parent ∙ ne_eqb up q other);
   }
 
   pub climbing_found : {q up m : ℕ} → Climbing q m → up ≡ parent arc w q → up ≡ q → m ≡ depth arc w start
   unfolding depth
-  climbing_found {q} {up} {m} c of-parent same = first_found c.passed (asked c of-parent ∙ eq-eqb up q same)
+  climbing_found {q} {up} {m} c of_parent same = first_found c.passed (asked c of_parent ∙ eq-eqb up q same)
 
   pub climbing_top : {q m : ℕ} → Climbing q m → start ≤ m → start ≡ depth arc w start
   unfolding depth
@@ -85,9 +85,9 @@ module _ (arc : ℕ → ℕ → Bool) (w : List ℕ) (start : ℕ) where
     pub writing_next : {out : List ℕ} {q m v up : ℕ} → Writing out q m → m < count → count ≤ length out₀ → v ≡ at w q → up ≡ parent arc w q
         → Writing (set out (count - 1 - m) v) up (m + 1)
     unfolding path_down
-    writing_next {out} {q} {m} {v} {up} x l room of-vertex of-parent = record {
+    writing_next {out} {q} {m} {v} {up} x l room of-vertex of_parent = record {
       within = omega arith;
-      here = stepped m x.here of-parent;
+      here = stepped m x.here of_parent;
       long = length-set out j v ∙ x.long;
       written =
           ap (λ (y : List ℕ). set y j v) (x.written ∙ apart)

@@ -105,8 +105,8 @@ module _ (arc : ℕ → ℕ → Bool) (n : ℕ) where
           let c : ℕ = arc_count x - suc m in
           let next : suc c ≡ arc_count x - m = omega arith in
           let there = met (suc c) (omega arith) in
-          let there-too : at r there.0 ≡ at x (arc_count x - m) = subst (λ (y : ℕ). at r there.0 ≡ at x y) next there.2 in
-          step m p there.0 (climbs m (omega arith) there.0 there.1 there-too) there.1 (led_on c p there.0 (omega arith) e there.2)
+          let there_too : at r there.0 ≡ at x (arc_count x - m) = subst (λ (y : ℕ). at r there.0 ≡ at x y) next there.2 in
+          step m p there.0 (climbs m (omega arith) there.0 there.1 there_too) there.1 (led_on c p there.0 (omega arith) e there.2)
 
     run_shortest : (q : ℕ) → q < n → (x : List ℕ) → IsPath arc n (at r (root arc r q)) (at r q) x → depth arc r q ≤ arc_count x
     run_shortest q l x path = go (below_or (arc_count x) (depth arc r q))

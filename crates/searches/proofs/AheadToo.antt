@@ -1,7 +1,7 @@
 -- Who is ahead by one search is ahead by another.
 --   AheadToo s s'           who is ahead by s' is ahead by s too
 --   ahead_generic           by Generic, so by every search;   ahead_of_none   a label that has a position is ahead of one that has none
---   ahead_lex_bfs_bfs, ..    the other pairs of `carriesTo`
+--   ahead_lex_bfs_bfs, ..    the other pairs of `carries_to`
 -- Assumes nothing.
 use mathlib.Core.Bool.{Bool, not, ◌&&◌}
 use Prim.Native.Nat.{ℕ, ◌<◌}

@@ -1,5 +1,5 @@
 -- What the calls answer where vertices are barred, and when.
---   barredOutside-*, barredNamed-*          what the two tests on the barred set mean
+--   barred_outside_*, barred_named_*          what the two tests on the barred set mean
 --   open_order, judge_order, carry_on_order  the numbers in the order in which they are tried
 --   valid_graph, valid_set                  the graph is valid, and the set has no bit at or above n
 --   clear_kept, none_named                  an ordering of kept vertices is an ordering that names no barred one

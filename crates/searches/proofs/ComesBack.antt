@@ -101,10 +101,10 @@ module _ (s : Search) (arc : ℕ → ℕ → Bool) (n : ℕ) (kept : ℕ → Boo
     fails_without =
         let x = fails_named in
         let v = x.first in
-        let below-a : x.number_a < n' = subst (λ (i : ℕ). i < n') v.a_stands (o'.vertices v.i (omega (arith, v.is.before, v.is.middle))) in
-        let below-b : x.number_b < n' = subst (λ (i : ℕ). i < n') v.b_stands (o'.vertices v.j v.is.middle) in
-        let ea : x.number_a ≡ number_of kept a = back x.number_a a below-a x.a_named in
-        let eb : x.number_b ≡ number_of kept b = back x.number_b b below-b x.b_named in
+        let below_a : x.number_a < n' = subst (λ (i : ℕ). i < n') v.a_stands (o'.vertices v.i (omega (arith, v.is.before, v.is.middle))) in
+        let below_b : x.number_b < n' = subst (λ (i : ℕ). i < n') v.b_stands (o'.vertices v.j v.is.middle) in
+        let ea : x.number_a ≡ number_of kept a = back x.number_a a below_a x.a_named in
+        let eb : x.number_b ≡ number_of kept b = back x.number_b b below_b x.b_named in
         let ec : x.number_c ≡ number_of kept c = back x.number_c c v.is.vertex x.c_named in
         subst (λ (y : ℕ). FirstViolation s arc' n' (numbered kept w) k (number_of kept a) (number_of kept b) y) ec
         (subst (λ (y : ℕ). FirstViolation s arc' n' (numbered kept w) k (number_of kept a) y x.number_c) eb

@@ -1,8 +1,8 @@
 -- The three demands, over the definitions that the functions' promises cite. Each theorem's comment says which sentence it is; the work is
 -- done in the modules that the proofs cite. Demand 1; then 2 and 3 for any graph, that is any relation `arc` on the vertices below n, of which a
 -- plan is a case, two-way or one-way; then 2 and 3 as the calls answer on kind byte, mark, rows and lists, which is `FormDemands` for rows.
--- The contracts of judge and carry-on are equations with `judgeBarring`, `carryOnBarring` and `outputBarring`, for which `DemandsBarring` has the demands; with
--- nothing barred these are `judgeAnswer`, `carryOnAnswer` and `carryOnOutput` (`NothingBarred`). A list that a contract does not name at exit is passed as `&`
+-- The contracts of judge and carry-on are equations with `judge_barring`, `carry_on_barring` and `output_barring`, for which `DemandsBarring` has the demands; with
+-- nothing barred these are `judge_answer`, `carry_on_answer` and `carry_on_output` (`NothingBarred`). A list that a contract does not name at exit is passed as `&`
 -- and cannot change; that every call ends is part of every proof of a function.
 -- Assumes nothing.
 use mathlib.Core.Path.{◌≡◌}

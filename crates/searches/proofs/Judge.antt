@@ -2,7 +2,7 @@
 --   third_rank, rank_third, rank_below, third_vertex   the candidates for c, and where each first stands among them
 --   rank_placed, rank_unplaced                         the rank of a placed and of an unplaced vertex
 --   middle_met                                         the middle of a violation is found
---   Judged s arc n w k v                               what a verdict says; judge-says: that judge's verdict does
+--   Judged s arc n w k v                               what a verdict says; judge_says: that judge's verdict does
 --   passes_unviolated, unviolated_passes               passes exactly when there is no violation
 -- Assumes nothing.
 use mathlib.Core.Path.{◌≡◌, refl, sym, ap, ◌∙◌, subst}
@@ -182,11 +182,11 @@ module _ (s : Search) (arc : ℕ → ℕ → Bool) (n : ℕ) (w : List ℕ) (k :
 
       go : (j < k) ⊎ (k ≤ j) → Judged s arc n w k (cond (ltb j k) (fails (at w i) (at w j) (third w k e)) passes)
       go (inl l) =
-          let some-i = first_found (any_out j (first_at j) ((first k middle_at).holds l)) in
-          let some-e = first_found (any_out (k + n) (last_at j i) ((first j (first_at j)).holds some-i)) in
+          let some_i = first_found (any_out j (first_at j) ((first k middle_at).holds l)) in
+          let some_e = first_found (any_out (k + n) (last_at j i) ((first j (first_at j)).holds some_i)) in
           subst (λ (v : Verdict). Judged s arc n w k v) (sym (cond_yes (ltb j k) (fails (at w i) (at w j) (third w k e)) passes (lt→ltb j k l)))
-          (first_violation j i e (first_earliest k middle_at) (first_earliest j (first_at j)) (first_earliest (k + n) (last_at j i)) o some-i l some-e
-          ((first (k + n) (last_at j i)).holds some-e))
+          (first_violation j i e (first_earliest k middle_at) (first_earliest j (first_at j)) (first_earliest (k + n) (last_at j i)) o some_i l some_e
+          ((first (k + n) (last_at j i)).holds some_e))
       go (inr l) =
           subst (λ (v : Verdict). Judged s arc n w k v) (sym (cond_no (ltb j k) (fails (at w i) (at w j) (third w k e)) passes (λ t. omega (arith, ltb→lt j k t))))
           (λ i' j' c v. let a = first_earliest k middle_at j' (middle_met v) in omega (arith, v.middle))

@@ -162,15 +162,15 @@ module _ (s : Search) (arc : ℕ → ℕ → Bool) (n : ℕ) (kept : ℕ → Boo
       start (inl l) =
           let h : i < j = first_found (any_out j (is_first s arc' n' w' k j) ((first k (is_middle s arc' n' w' k)).holds l)) in
           let g : e < k + n' = first_found (any_out (k + n') (is_last s arc' n' w' k j i) ((first j (is_first s arc' n' w' k j)).holds h)) in
-          let same-i : i ≡ first_below j (kept_first s arc n kept w k j) = first_same j (is_first s arc' n' w' k j) (kept_first s arc n kept w k j) (λ x m. first_kept j x m l) in
-          let same-e : place e ≡ first_below (k + n) (kept_last s arc n kept w k j i) = first_along (last_along j i h l) g in
+          let same_i : i ≡ first_below j (kept_first s arc n kept w k j) = first_same j (is_first s arc' n' w' k j) (kept_first s arc n kept w k j) (λ x m. first_kept j x m l) in
+          let same_e : place e ≡ first_below (k + n) (kept_last s arc n kept w k j i) = first_along (last_along j i h l) g in
           let a : name (at w' i) ≡ at w i = named_at n kept w k o stays i (omega arith) in
           let b : name (at w' j) ≡ at w j = named_at n kept w k o stays j l in
           let c : name (third w' k e) ≡ third w k (place e) = sym (third_place e) in
           let named : fails (name (at w' i)) (name (at w' j)) (name (third w' k e)) ≡ fails (at w i) (at w j) (third w k (place e)) = cc in
           ap (named_verdict n kept) (cond_yes (ltb j k) there passes (lt→ltb j k l)) ∙ named
           ∙ sym (cond_yes (ltb j k) (fails (at w i) (at w j) (third w k (place e))) passes (lt→ltb j k l))
-          ∙ ap (λ (x : ℕ). shown j i x) same-e ∙ ap (λ (x : ℕ). shown j x (first_below (k + n) (kept_last s arc n kept w k j x))) same-i
+          ∙ ap (λ (x : ℕ). shown j i x) same_e ∙ ap (λ (x : ℕ). shown j x (first_below (k + n) (kept_last s arc n kept w k j x))) same_i
       start (inr l) =
           let out : T (ltb j k) → ⊥ = λ t. omega (arith, ltb→lt j k t) in
           let y = first_below j (kept_first s arc n kept w k j) in

@@ -1,7 +1,7 @@
 -- The mark of a graph, two-way or one-way: what 02 (K4) asks about it. All else that is proved of the calls' answers holds for every mark, and what is
 -- proved of any graph knows none.
 --   broken_off                                a part of a walk on a one-way graph: passes, begins a run, has no violation
---   five_two_way_open, -judge, -carryOn       refusal 5 is given for two-way graphs only
+--   five_two_way_open, five_two_way_judge, five_two_way_carry_on       refusal 5 is given for two-way graphs only
 --   valid_both_ways                           every link of a valid two-way graph goes both ways
 --   either_open, either_judge, either_carry_on   where every link goes both ways, both marks get the same answers
 --   judge_tests_lem                               and judge's tests are the same

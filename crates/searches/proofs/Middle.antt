@@ -1,5 +1,5 @@
 -- A placed vertex was offered unless it is the middle of a violation; among the kept vertices too.
---   middle_out           isMiddle: a violation has its middle there
+--   middle_out           is_middle: a violation has its middle there
 --   offered_unless_middle, kept_unless_middle
 -- Assumes nothing.
 use mathlib.Core.Path.{◌≡◌, sym, ap, ◌∙◌}

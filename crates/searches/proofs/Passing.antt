@@ -103,13 +103,13 @@ module _ (s : Search) (arc : ℕ → ℕ → Bool) (n : ℕ) where
             go : (j < k) ⊎ (k ≤ j) → shown w j i e ≡ from j
             go (inl l) =
                 let h : i < j = first_found (any_out j (is_first s arc n w k j) ((first k (is_middle s arc n w k)).holds l)) in
-                let same-i : i ≡ first_below j (is_first s arc n w' k j) = first_same j (is_first s arc n w k j) (is_first s arc n w' k j) (λ x g. first_agree j x g l) in
-                let same-e : e ≡ first_below (k + n) (is_last s arc n w' k j i) = first_same (k + n) (is_last s arc n w k j i) (is_last s arc n w' k j i) (λ x _. last_agree j i x h l) in
-                let a-i : at w i ≡ at w' i = a i (omega arith) in
-                let a-j : at w j ≡ at w' j = a j l in
-                let t-e : third w k e ≡ third w' k e = third_agree e in
+                let same_i : i ≡ first_below j (is_first s arc n w' k j) = first_same j (is_first s arc n w k j) (is_first s arc n w' k j) (λ x g. first_agree j x g l) in
+                let same_e : e ≡ first_below (k + n) (is_last s arc n w' k j i) = first_same (k + n) (is_last s arc n w k j i) (is_last s arc n w' k j i) (λ x _. last_agree j i x h l) in
+                let a_i : at w i ≡ at w' i = a i (omega arith) in
+                let a_j : at w j ≡ at w' j = a j l in
+                let t_e : third w k e ≡ third w' k e = third_agree e in
                 let here : shown w j i e ≡ shown w' j i e = cc in
-                here ∙ ap (λ (x : ℕ). shown w' j i x) same-e ∙ ap (λ (x : ℕ). shown w' j x (first_below (k + n) (is_last s arc n w' k j x))) same-i
+                here ∙ ap (λ (x : ℕ). shown w' j i x) same_e ∙ ap (λ (x : ℕ). shown w' j x (first_below (k + n) (is_last s arc n w' k j x))) same_i
             go (inr l) =
                 let out : T (ltb j k) → ⊥ = λ t. omega (arith, ltb→lt j k t) in
                 let i' = first_below j (is_first s arc n w' k j) in

@@ -1,7 +1,7 @@
 -- Refusals: each is given exactly in its stated case.
 --   refuses_first, first_refuses, accepts_none, none_accepts   the answer is the first test that holds
---   outside-*, loop-*, unreturned-*, all_returned              what the tests on a graph mean, in whatever form it is given
---   bitOutside-*, selfLoop-*, oneWay-*, vertexOutside-*, repeated-*   what the tests mean
+--   outside_*, loop_*, unreturned_*, all_returned              what the tests on a graph mean, in whatever form it is given
+--   bit_outside_*, self_loop_*, one_way_*, vertex_outside_*, repeated_*   what the tests mean
 --   numbers tests                                              the numbers of the tests, in the order in which they are tried
 --   judge_order, carry_on_order, open_order                     what these are
 -- Assumes nothing.

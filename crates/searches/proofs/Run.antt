@@ -91,16 +91,16 @@ module _ (s : Search) (arc : ℕ → ℕ → Bool) (n : ℕ) where
   outranks_agree k u v w w' a t =
       let r = outranks→reason k (label arc w u) (label arc w v) s t in
       let u_same = label_agree k u w w' a in
-      let v-same = label_agree k v w w' a in
+      let v_same = label_agree k v w w' a in
       let own = condition s r.position in
       reason→outranks k (label arc w' u) (label arc w' v) s (record {
         position = r.position;
         below = r.below;
         ours = subst (λ (b : Bool). T b) (u_same r.position r.below) r.ours;
-        theirs = λ p. r.theirs (subst (λ (b : Bool). T b) (sym (v-same r.position r.below)) p);
+        theirs = λ p. r.theirs (subst (λ (b : Bool). T b) (sym (v_same r.position r.below)) p);
         unexcused =
             meets_out k (label arc w' u) (label arc w' v) own
-            (subst (λ (b : Bool). T b) (meets_same k (label arc w u) (label arc w v) (label arc w' u) (label arc w' v) u_same v-same own)
+            (subst (λ (b : Bool). T b) (meets_same k (label arc w u) (label arc w v) (label arc w' u) (label arc w' v) u_same v_same own)
             (meets_in k (label arc w u) (label arc w v) own r.unexcused));
       })
 

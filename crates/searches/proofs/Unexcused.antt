@@ -1,7 +1,7 @@
 -- The search's own condition of a violation, told by numbers taken of the two labels, search by search, for positions below any bound k.
 --   none_sooner, none_later     a set has no number before i exactly when its first is not, and none after i exactly when its last is not
 --   only_turned                 a test on what b has and c has not, made together with c's
---   unexcused-*                 the conditions of LexBFS, LexDFS and MNS, by what b has and c has not
+--   unexcused_*                 the conditions of LexBFS, LexDFS and MNS, by what b has and c has not
 -- Assumes nothing.
 use mathlib.Core.Path.{◌≡◌, refl, sym, ap, ◌∙◌}
 use mathlib.Core.Bool.{Bool, true, false, not, ◌&&◌}

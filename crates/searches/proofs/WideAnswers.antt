@@ -1,5 +1,5 @@
 -- What the calls answer in the wide form where nothing is refused, and when that is: `Forms` for the tests, the arcs and the number of vertices of a table.
---   bitOutsideWide-*, selfLoopWide-*, oneWayWide-*   what the tests mean
+--   bit_outside_wide_*, self_loop_wide_*, one_way_wide_*   what the tests mean
 --   wide_small, wide_whole, wide_inside, wide_unlooped, wide_both_ways, wide_any_kind   what is known of a valid table
 --   ordering_accepted, accepted_ordering     judge refuses no ordering of a valid table, and nothing else passes its tests
 --   lists_accepted, accepted_lists, start_accepted, accepted_start   likewise for carry-on

@@ -180,14 +180,14 @@ module _ (b : List ℕ) where
       unfolding end_read formed
       end_agrees fit =
           let so = none_malformed b small linked fit in
-          let all-linked = is_true (all_below (links_of b) (link_fits b)) (all_in (links_of b) (link_fits b) linked) in
-          let all_Placed = is_true (all_below (places_of b) (place_fits b)) (all_in (places_of b) (place_fits b) fit) in
+          let all_linked = is_true (all_below (links_of b) (link_fits b)) (all_in (links_of b) (link_fits b) linked) in
+          let all_placed = is_true (all_below (places_of b) (place_fits b)) (all_in (places_of b) (place_fits b) fit) in
           subst Agrees (sym so.1) (record {
             head = ne_eqb (suc (links_of b + places_of b)) 0 (λ e. omega arith) ∙ sym (ap not (is_true (headed b) head));
             points = λ _. refl;
             places = λ _. refl;
             sound = λ _. (head, small);
-            form = λ _ _. sym (ap₂ (λ (x y : Bool). (x && y) && eqb (length b) (place_start b (places_of b))) all-linked all_Placed);
+            form = λ _ _. sym (ap₂ (λ (x y : Bool). (x && y) && eqb (length b) (place_start b (places_of b))) all_linked all_placed);
             line = λ _. stops_at b (suc (links_of b + places_of b)) (omega arith) (lines_placed head linked (places_of b) fit) (λ l. absurd (omega arith));
             outside = λ _ _ _. refl;
             rows = λ _ _ _. refl;

@@ -126,9 +126,9 @@ module _ (g : Progress) where
   after_whole start none_yet =
       let b = g.reader.sheet.now in
       let first = advanced_by g 1 in
-      let begun-at : (first.reader.at, first.parsed) ≡ steps b 1 (0, blank) = after_steps g 1 ∙ ap₂ (λ (i : ℕ) (p : Parsed). steps b 1 (i, p)) start none_yet in
+      let begun_at : (first.reader.at, first.parsed) ≡ steps b 1 (0, blank) = after_steps g 1 ∙ ap₂ (λ (i : ℕ) (p : Parsed). steps b 1 (i, p)) start none_yet in
       ap (λ (s : ℕ × Parsed). s.1) (after_steps first first.parsed.rest)
-      ∙ (λ z. (steps (after_sheet g 1 z).now (begun-at z).1.rest (begun-at z)).1)
+      ∙ (λ z. (steps (after_sheet g 1 z).now (begun_at z).1.rest (begun_at z)).1)
 
   pub after_few : g.reader.at ≡ 0 → g.parsed ≡ blank → (advanced_by g 1).reader.at + 13 * (advanced_by g 1).parsed.rest < 900000
   unfolding advanced_by

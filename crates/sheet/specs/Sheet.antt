@@ -3,7 +3,7 @@
 --   headed b                  line 1 has the form
 --   link_start j, place_start b j           where the line of link j, of place j begins
 --   from_of b j, to_of b j      the two points of link j;   before_from b j, before_to b j   of the link before it, 0 and 0 for the first
---   link_fits b j              the line of link j has the form, its points are points, smaller first, and it comes after the one before it (`linkFitsAt` in `Line`
+--   link_fits b j              the line of link j has the form, its points are points, smaller first, and it comes after the one before it (`link_fits_at` in `Line`
 --                             of `lines`)
 --   place_at b j               the number in the line of place j;   place_fits b j   the line has the form
 --   formed b                  all lines after the first have the form, and nothing follows

@@ -1,10 +1,10 @@
 -- The words hold the labels and the unplaced vertices of searches/, and what is computed on them is what is defined there.
 --   cut_same, cut_below                      a set that ends at a bound;   meets_cut, outranks_cut, compared_cut   it is compared below it
---   free_word, free_members                  freeAfter: a word, which holds the unplaced vertices;   free_unplaced, free_stays, free_vertex, free_size
+--   free_word, free_members                  free_after: a word, which holds the unplaced vertices;   free_unplaced, free_stays, free_vertex, free_size
 --   whole_members, whole_unbarred, whole_inside, whole_word   whole: a word, which holds the vertices that are not barred;   whole_count   how many
 --   free_earlier, grown_member               who is unplaced later, and whose label grows
---   kept_length                              keptAfter: 64 values;   kept_start, kept_next   of an unplaced vertex
---   label_members                            labelsAfter: words which hold the labels of the unplaced vertices
+--   kept_length                              kept_after: 64 values;   kept_start, kept_next   of an unplaced vertex
+--   label_members                            labels_after: words which hold the labels of the unplaced vertices
 --   ahead_same, compared_same                who is ahead, and how two stand to each other;   beaten_same, open_offered   who is beaten, who is offered
 -- Assumes nothing.
 use mathlib.Core.Path.{◌≡◌, refl, sym, ap, ap₂, ◌∙◌, subst}

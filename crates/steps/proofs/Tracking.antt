@@ -96,9 +96,9 @@ module _ (rows : List ℕ) (all : ℕ) (w : List ℕ) (k : ℕ) (small : length 
           ap (λ (x : Option ℕ). smallest_with j (smallest_byte x)) gone ∙ ap smallest_byte (sym (smallest_begins arc w v j t gone))
       grown t (inr not_empty) =
           let q = first_below j (label arc w v) in
-          let some-there = not_not (any_below j (label arc w v)) (not_T (not (any_below j (label arc w v))) not_empty) in
-          let there = keeps_smallest arc w v j ∙ smallest_found j (label arc w v) some-there in
-          let below = first_found (any_out j (label arc w v) some-there) in
+          let some_there = not_not (any_below j (label arc w v)) (not_T (not (any_below j (label arc w v))) not_empty) in
+          let there = keeps_smallest arc w v j ∙ smallest_found j (label arc w v) some_there in
+          let below = first_found (any_out j (label arc w v) some_there) in
           ap (λ (x : Option ℕ). smallest_with j (smallest_byte x)) there
           ∙ cond_no (eqb q 64) j q (λ u. omega (arith, eqb→eq q 64 u, ordering_fits (length rows) o))
           ∙ ap smallest_byte (sym (smallest_stays arc w v j q there))

@@ -98,9 +98,9 @@ in_word_at_lem words i q l h =
 pub in_word-at : (word i q : ℕ) → q < 64 → in_word word i (64 * i + q) ≡ member word q
 unfolding in_word
 in_word-at word i q l =
-    let at-word : (64 * i + q) / 64 ≡ i = omega arith in
-    let at-bit : (64 * i + q) % 64 ≡ q = omega arith in
-    ap₂ (λ (b : Bool) (p : ℕ). b && member word p) (is_true (eqb ((64 * i + q) / 64) i) (eq→eqb ((64 * i + q) / 64) i at-word)) at-bit
+    let at_word : (64 * i + q) / 64 ≡ i = omega arith in
+    let at_bit : (64 * i + q) % 64 ≡ q = omega arith in
+    ap₂ (λ (b : Bool) (p : ℕ). b && member word p) (is_true (eqb ((64 * i + q) / 64) i) (eq→eqb ((64 * i + q) / 64) i at_word)) at_bit
 
 pub row_below : (table : List ℕ) (u v : ℕ) → T (arcs_wide 8 table u v) → v < 512
 row_below table u v t = arc_below 8 table u v t

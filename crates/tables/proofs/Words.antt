@@ -1,6 +1,6 @@
 -- Searches and counts in rows and sets, word by word. Word i of a test f on numbers below n is x where f holds at 64 * i + q just where q is in x.
 --   only_word, both_word               the word of one row without another, and of a row and a set in common
---   IsPast n f m, past, past_unique    what `pastLast` is
+--   IsPast n f m, past, past_unique    what `past_last` is
 --   past_none                          where f holds nowhere
 --   past_largest                       the machine's count of leading zeros gives it for a word
 --   NoneFrom n f q                     f holds at no number from q up;   none_sooner   nor then from a greater one

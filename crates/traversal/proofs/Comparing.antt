@@ -1,5 +1,5 @@
 -- Two unplaced vertices of an open walk compared: what holds of every state and every two numbers. The call's contract is an equation with
--- `compareAnswer`; each theorem's comment says which sentence of 02 it is.
+-- `compare_answer`; each theorem's comment says which sentence of 02 it is.
 -- Assumes nothing.
 use Prim.Native.Nat.{ℕ, ◌<◌}
 use mathlib.Core.Path.{◌≡◌, refl, sym, ap, ◌∙◌, subst}

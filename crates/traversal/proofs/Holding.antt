@@ -150,15 +150,15 @@ module _ (kind : ℕ) (mark : Mark) (rows : List ℕ) (barred : ℕ) (valid : Ac
         let some_left : T (eqb (length w) (in_service (holding kind mark rows barred w))) → ⊥ =
         λ x. omega (arith, eqb→eq (length w) (count_below (length rows) kept) x, longer)
         in
-        let a-vertex : T (leb (length rows) v) → ⊥ = λ x. omega (arith, leb→le (length rows) v x, vertex.1) in
+        let a_vertex : T (leb (length rows) v) → ⊥ = λ x. omega (arith, leb→le (length rows) v x, vertex.1) in
         let in_service_lem : T (member barred v) → ⊥ = T_not (member barred v) vertex.0 in
         let unplaced : T (placed (walk (holding kind mark rows barred w)) (length w) v) → ⊥ =
         λ x. vertex.2 (subst (λ (l : List ℕ). T (placed l (length w) v)) (holding_walk w) x)
         in
-        let is-offered : T (not (offers (holding kind mark rows barred w) v)) → ⊥ =
+        let is_offered : T (not (offers (holding kind mark rows barred w) v)) → ⊥ =
         λ x. T_not (offers (holding kind mark rows barred w) v) x (subst (λ (b : Bool). T b) (sym (holding_offers v)) t)
         in
-        ((λ x. T_not (well_formed (holding kind mark rows barred w)) x holding_formed), (some_left, (a-vertex, (in_service_lem, (unplaced, (is-offered, tt))))))
+        ((λ x. T_not (well_formed (holding kind mark rows barred w)) x holding_formed), (some_left, (a_vertex, (in_service_lem, (unplaced, (is_offered, tt))))))
 
     pub sound_grown : (v : ℕ) → T (offered_without (search_of kind) (arcs rows) (length rows) kept w (length w) v) → Sound (w ++ v ∷ [])
     sound_grown v t =

@@ -1,5 +1,5 @@
 -- The open walk: what holds of every state and every number, and of every list of placings and takings back after open.
--- A function's contract is an equation with `opened`, `grown`, `shrunk`, `offeredSet` and the answers; each theorem's comment says which
+-- A function's contract is an equation with `opened`, `grown`, `shrunk`, `offered_set` and the answers; each theorem's comment says which
 -- sentence of 01 it is.
 -- Assumes nothing.
 use Prim.Native.Nat.{ℕ, ◌-◌, ◌≤◌, ◌<◌}
@@ -181,9 +181,9 @@ module _ (kind : ℕ) (mark : Mark) (rows : List ℕ) (barred : ℕ) (valid : Ac
     pub offers_exactly : (v : ℕ) → T (member (offered_set now_open) v) ↔ (judge_barring kind mark rows barred (walk now_open ++ v ∷ []) ≡ passes)
     offers_exactly v =
         let set = ap (λ (t : Traversal). member (offered_set t) v) holds_whole ∙ member_offered kind mark rows barred valid held sound v in
-        let grown-walk = ap (λ (w : List ℕ). judge_barring kind mark rows barred (w ++ v ∷ [])) walk_remains in (
-          λ t. grown-walk ∙ offered_passes kind mark rows barred valid held sound v (subst (λ (b : Bool). T b) set t),
-          λ p. subst (λ (b : Bool). T b) (sym set) (passes_offered kind mark rows barred valid held sound v (sym grown-walk ∙ p)),
+        let grown_walk = ap (λ (w : List ℕ). judge_barring kind mark rows barred (w ++ v ∷ [])) walk_remains in (
+          λ t. grown_walk ∙ offered_passes kind mark rows barred valid held sound v (subst (λ (b : Bool). T b) set t),
+          λ p. subst (λ (b : Bool). T b) (sym set) (passes_offered kind mark rows barred valid held sound v (sym grown_walk ∙ p)),
         )
 
     -- placing the last of the tie-break among the offered: no such placing is refused until all that are not barred are placed,

@@ -1,7 +1,7 @@
 -- When an open walk is well formed, and what the words of the moment then say.
 --   plan_length, walk_length         there are n rows and k places
 --   parts, of-parts                  the tests that well-formedness is made of
---   well_formed_out, well_formed_in  wellFormed: condition by condition
+--   well_formed_out, well_formed_in  well_formed: condition by condition
 --   surveyed_broken, surveyed_judged what survey hands back where a test fails, and where judge decides
 --   surveyed_passes, surveyed_words  whether the open walk is well formed, and the words of the moment where it is
 --   surveyed_weighed                 the weights are those of the labels

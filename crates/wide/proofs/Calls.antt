@@ -2,7 +2,7 @@
 --   valid_graph                     no test on the table holds: what placing, replaying and filling ask of it
 --   stopped_fails, ended_passes, whole_ended   the replay stops at a vertex that was not offered, or goes to the end
 --   tail_of, begun_ended             there filling begins, on the tail of the output list;   filled_carried   what it leaves is the ordering carried on
---   judge-asked-*, carryOn-asked-*  the answers of the calls, from the tests' answer
+--   judge_asked_*, carry_on_asked_*  the answers of the calls, from the tests' answer
 -- Assumes nothing.
 use mathlib.Core.Path.{◌≡◌, refl, sym, ap, ap₂, ◌∙◌, subst}
 use mathlib.Core.Logic.{inl}

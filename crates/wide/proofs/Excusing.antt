@@ -1,5 +1,5 @@
 -- The search's own condition of a violation, told by the weights of the two labels, of positions below 512.
---   unexcused-*     the condition of each search that compares weights alone, in the form in which the code tests it
+--   unexcused_*     the condition of each search that compares weights alone, in the form in which the code tests it
 -- Assumes nothing.
 use mathlib.Core.Path.{◌≡◌, refl, ap, ◌∙◌}
 use mathlib.Core.Bool.{Bool, true, false, cond, not, ◌&&◌}

@@ -150,7 +150,7 @@ module _ (s : Search) (labels ranks : List ℕ) where
               let both = and_out (in_word word i v) (not (in_word (removed rest q) i v)) m in
               inl (and_in (in_word word i v) (not (in_word rest i v)) both.0 (not_T (in_word rest i v) (λ x.
               let y = and_out (eqb (v / 64) i) (member rest (v % 64)) x in
-              let word-is : v / 64 ≡ i = eqb→eq (v / 64) i y.0 in
+              let word_is : v / 64 ≡ i = eqb→eq (v / 64) i y.0 in
               T_not (in_word (removed rest q) i v) both.1 (and_in (eqb (v / 64) i) (member (removed rest q) (v % 64)) y.0 (removed_keeps rest q (v % 64)
               (λ same. apart (subst (λ (z : ℕ). T (eqb (64 * i + q) z)) (let e : 64 * i + q ≡ v = omega arith in e) (eqb_refl (64 * i + q)))) y.1)))))
 

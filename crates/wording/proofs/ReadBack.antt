@@ -1,5 +1,5 @@
 -- A sentence is read back as what it was written for, so it is the sentence of nothing else.
---   read-back            what is read of the sentence of s and v is s and v
+--   read_back            what is read of the sentence of s and v is s and v
 --   sentence_alone       equal sentences are of the same search and the same verdict
 -- Assumes nothing.
 use mathlib.Core.Path.{◌≡◌, refl, sym, ap, ap₂, ◌∙◌}

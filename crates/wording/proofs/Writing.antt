@@ -96,10 +96,10 @@ module _ (l : List ℕ) (at : ℕ) where
 
   pub written_more : (text : List ℕ) {out : List ℕ} {end : ℕ} (more : List ℕ) {out' : List ℕ} {end' : ℕ} → Written l at text out end → out' ≡ sets out end more
       → end' ≡ end + length more → Written l at (text ++ more) out' end'
-  written_more text more w at_out at-end = record {
+  written_more text more w at_out at_end = record {
     bytes = at_out ∙ ap₂ (λ (x : List ℕ) (m : ℕ). sets x m more) w.bytes w.place ∙ sym (sets_append l at text more);
     place =
-        at-end ∙ ap (λ (m : ℕ). m + length more) w.place ∙ (let e : at + length text + length more ≡ at + length (text ++ more) = omega (arith, length-append text more) in e);
+        at_end ∙ ap (λ (m : ℕ). m + length more) w.place ∙ (let e : at + length text + length more ≡ at + length (text ++ more) = omega (arith, length-append text more) in e);
   }
 
 -- ---- at the front of a list
@@ -111,9 +111,9 @@ pub record Begun (l text out : List ℕ) (end most : ℕ) : Type 0 where
 
 module _ (l : List ℕ) where
   pub begun_name : (s : Search) {out : List ℕ} {end : ℕ} → out ≡ sets l 0 (name s) → end ≡ length (name s) → Begun l (name s) out end 7
-  begun_name s at_out at-end = record {
-    written = record { bytes = at_out; place = omega (arith, at-end) };
-    short = omega (arith, at-end, name_short s);
+  begun_name s at_out at_end = record {
+    written = record { bytes = at_out; place = omega (arith, at_end) };
+    short = omega (arith, at_end, name_short s);
   }
 
   -- there is room for more bytes
@@ -122,7 +122,7 @@ module _ (l : List ℕ) where
 
   pub begun_more : (text more : List ℕ) (m : ℕ) {out : List ℕ} {end most : ℕ} {out' : List ℕ} {end' : ℕ} → length more ≤ m → Begun l text out end most
       → out' ≡ sets out end more → end' ≡ end + length more → Begun l (text ++ more) out' end' (most + m)
-  begun_more text more m h b at_out at-end = record { written = written_more l 0 text more b.written at_out at-end; short = omega (arith, b.short) }
+  begun_more text more m h b at_out at_end = record { written = written_more l 0 text more b.written at_out at_end; short = omega (arith, b.short) }
 
   -- the whole text: what is written, and where it ends
   pub begun_whole : (text : List ℕ) {whole out : List ℕ} {end most : ℕ} → text ≡ whole → Begun l text out end most → (out ≡ sets l 0 whole) × (end ≡ length whole)

@@ -16,20 +16,20 @@ use Rattle.searches.specs.declared.Mark.{Mark}
 use Rattle.lookup.specs.Row.{outside_at, loop_at, refused_at}
 use Rattle.checks.proofs.Tried.{Tried, tried_none, tried_one, refused_here, accepted_here}
 use Rattle.checks.proofs.graph_refusal.Goals as goal
-use Rattle.checks.proofs.graph_refusal.Goals.{After-struct_known-2-1, Else-kind, Else-looped-n, Else-n-gt64, Else-one_way, Else-outside-n, In-OneWay}
+use Rattle.checks.proofs.graph_refusal.Goals.{Start, Else-kind, Else-looped-n, Else-n-gt64, Else-one_way, Else-outside-n, In-OneWay}
 
-abbrev tests : After-struct_known-2-1 → List (ℕ × Bool)
+abbrev tests : Start → List (ℕ × Bool)
 tests c = open_tests c.args.kind.0 c.args.mark c.args.rows.now
 
 -- the first i tests do not hold
-abbrev Past : ℕ → After-struct_known-2-1 → Type 0
+abbrev Past : ℕ → Start → Type 0
 Past i c = Tried (tests c) (drop i (tests c))
 
-past_1 : (c : Else-kind) → Past 1 (goal.at.Else-kind c).After-struct_known-2-1
+past_1 : (c : Else-kind) → Past 1 (goal.at.Else-kind c).Start
 unfolding open_tests
 past_1 c = tried_one (tried_none _) (le-ltb _ _ c.if-kind.false)
 
-past_2 : (c : Else-n-gt64) → Past 2 (goal.at.Else-n-gt64 c).After-struct_known-2-1
+past_2 : (c : Else-n-gt64) → Past 2 (goal.at.Else-n-gt64 c).Start
 unfolding open_tests
 past_2 c = tried_one (past_1 (goal.at.Else-n-gt64 c).Else-kind) (le-ltb _ _ c.if-n-gt64.false)
 
@@ -37,11 +37,11 @@ no_bit_outside : (c : Else-outside-n) → bit_outside c.args.rows.now ≡ false
 unfolding bit_outside refused_at outside_at from_up arcs
 no_bit_outside c = is_false _ (none_found _ _ _ c.first_refused-outside.ensures c.if-outside-n.false)
 
-past_3 : (c : Else-outside-n) → Past 3 (goal.at.Else-outside-n c).After-struct_known-2-1
+past_3 : (c : Else-outside-n) → Past 3 (goal.at.Else-outside-n c).Start
 unfolding open_tests
 past_3 c = tried_one (past_2 (goal.at.Else-outside-n c).Else-n-gt64) (no_bit_outside c)
 
-past_4 : (c : Else-looped-n) → Past 4 (goal.at.Else-looped-n c).After-struct_known-2-1
+past_4 : (c : Else-looped-n) → Past 4 (goal.at.Else-looped-n c).Start
 unfolding open_tests self_loop refused_at loop_at
 past_4 c = tried_one (past_3 (goal.at.Else-looped-n c).Else-outside-n) (is_false _ (none_found _ _ _ c.first_refused-looped.ensures c.if-looped-n.false))
 
@@ -54,13 +54,13 @@ five_tried : {mark : Mark} {b : Bool} (a : Bool) → mark ≡ Mark.TwoWay → b 
 unfolding is_two_way
 five_tried {b = b} a e same = ap (λ (m : Mark). is_two_way m && b) e ∙ same
 
-past_5 : (c : Else-one_way) → Past 5 (goal.at.Else-one_way c).After-struct_known-2-1
+past_5 : (c : Else-one_way) → Past 5 (goal.at.Else-one_way c).Start
 unfolding open_tests
 past_5 c =
     tried_one (past_4 (goal.at.Else-one_way c).Else-looped-n)
     (five_tried _ c.in_default.is (sym c.one_way.ensures ∙ c.if-one_way.false))
 
-not_tried_5 : (c : In-OneWay) → Past 5 (goal.at.In-OneWay c).After-struct_known-2-1
+not_tried_5 : (c : In-OneWay) → Past 5 (goal.at.In-OneWay c).Start
 unfolding open_tests
 not_tried_5 c = tried_one (past_4 (goal.at.In-OneWay c).Else-looped-n) (five_dropped _ c.in-OneWay.is)
 

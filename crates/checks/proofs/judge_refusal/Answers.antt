@@ -13,8 +13,8 @@ use Rattle.checks.proofs.Tried.{Tried, tried_one, tried_first, refused_here, ref
 use Rattle.checks.proofs.judge_refusal.Goals as goal
 use Rattle.checks.proofs.judge_refusal.Goals.{After-open_refusal-opened, Else-n-length, Else-vertex_outside, In_default}
 
-abbrev first-tests : After-open_refusal-opened → List (ℕ × Bool)
-first-tests c = open_tests_barring c.args.kind.0 c.args.mark c.args.rows.now c.args.barred
+abbrev first_tests : After-open_refusal-opened → List (ℕ × Bool)
+first_tests c = open_tests_barring c.args.kind.0 c.args.mark c.args.rows.now c.args.barred
 
 abbrev tests : After-open_refusal-opened → List (ℕ × Bool)
 tests c = judge_tests_barring c.args.kind.0 c.args.mark c.args.rows.now c.args.barred c.args.ordering.now
@@ -23,13 +23,13 @@ tests c = judge_tests_barring c.args.kind.0 c.args.mark c.args.rows.now c.args.b
 abbrev Past : ℕ → After-open_refusal-opened → Type 0
 Past i c = Tried (tests c) (drop i (tests c))
 
-opened : (c : In_default) → none ≡ first_refusal (first-tests (goal.at.In_default c).After-open_refusal-opened)
+opened : (c : In_default) → none ≡ first_refusal (first_tests (goal.at.In_default c).After-open_refusal-opened)
 unfolding refusal_of
 opened c = sym (ap refusal_of c.in_default.is) ∙ c.open_refusal-opened.ensures
 
 past_6 : (c : In_default) → Past 6 (goal.at.In_default c).After-open_refusal-opened
 unfolding open_tests open_tests_barring judge_tests_barring
-past_6 c = tried_first (first-tests (goal.at.In_default c).After-open_refusal-opened) _ (opened c)
+past_6 c = tried_first (first_tests (goal.at.In_default c).After-open_refusal-opened) _ (opened c)
 
 past_7 : (c : Else-n-length) → Past 7 (goal.at.Else-n-length c).After-open_refusal-opened
 unfolding open_tests open_tests_barring judge_tests_barring
@@ -45,7 +45,7 @@ open_refusal-opened-requires c = tt
 pub returns-in-Refused : goal.returns-in-Refused
 unfolding judge_tests_barring refusal_of
 returns-in-Refused c =
-    refused_before (first-tests (goal.at.returns-in-Refused c).After-open_refusal-opened) _
+    refused_before (first_tests (goal.at.returns-in-Refused c).After-open_refusal-opened) _
     (sym (ap refusal_of c.in-Refused.is) ∙ c.open_refusal-opened.ensures)
 
 pub returns-then-n-length : goal.returns-then-n-length

@@ -11,16 +11,16 @@ use Rattle.checks.proofs.Tried.{Tried, tried_one, tried_first, refused_here, ref
 use Rattle.checks.proofs.open_refusal.Goals as goal
 use Rattle.checks.proofs.open_refusal.Goals.{After-any_from, After-graph_refusal-checked}
 
-abbrev first-tests : After-graph_refusal-checked → List (ℕ × Bool)
-first-tests c = open_tests c.args.kind.0 c.args.mark c.args.rows.now
+abbrev first_tests : After-graph_refusal-checked → List (ℕ × Bool)
+first_tests c = open_tests c.args.kind.0 c.args.mark c.args.rows.now
 
 -- the tests on the graph do not hold, and the last one is that of the code
 last : (c : After-any_from)
     → Tried (open_tests_barring c.args.kind.0 c.args.mark c.args.rows.now c.args.barred) ((23, c.any_from.result) ∷ [])
 unfolding open_tests_barring barred_outside from_up refusal_of
 last c =
-    subst (λ (b : Bool). Tried (first-tests (goal.at.After-any_from c).After-graph_refusal-checked ++ (23, barred_outside (length c.args.rows.now) c.args.barred) ∷ []) ((23, b) ∷ [])) (sym c.any_from.ensures)
-    (tried_first (first-tests (goal.at.After-any_from c).After-graph_refusal-checked) _ (sym (ap refusal_of c.in_default.is) ∙ c.graph_refusal-checked.ensures))
+    subst (λ (b : Bool). Tried (first_tests (goal.at.After-any_from c).After-graph_refusal-checked ++ (23, barred_outside (length c.args.rows.now) c.args.barred) ∷ []) ((23, b) ∷ [])) (sym c.any_from.ensures)
+    (tried_first (first_tests (goal.at.After-any_from c).After-graph_refusal-checked) _ (sym (ap refusal_of c.in_default.is) ∙ c.graph_refusal-checked.ensures))
 
 pub graph_refusal-checked-requires : goal.graph_refusal-checked-requires
 graph_refusal-checked-requires c = tt
@@ -28,7 +28,7 @@ graph_refusal-checked-requires c = tt
 pub returns-in-Refused : goal.returns-in-Refused
 unfolding open_tests_barring refusal_of
 returns-in-Refused c =
-    refused_before (first-tests (goal.at.returns-in-Refused c).After-graph_refusal-checked) _
+    refused_before (first_tests (goal.at.returns-in-Refused c).After-graph_refusal-checked) _
     (sym (ap refusal_of c.in-Refused.is) ∙ c.graph_refusal-checked.ensures)
 
 pub any_from-requires : goal.any_from-requires

@@ -13,8 +13,8 @@ use Rattle.chordal.specs.Answer.{chordal_tests}
 use Rattle.chordal.proofs.chordal_refusal.Goals as goal
 use Rattle.chordal.proofs.chordal_refusal.Goals.{After-two_way_refusal-checked, In_default}
 
-abbrev first-tests : After-two_way_refusal-checked → List (ℕ × Bool)
-first-tests c = let a = c.args in two_way_tests a.mark a.rows.now
+abbrev first_tests : After-two_way_refusal-checked → List (ℕ × Bool)
+first_tests c = let a = c.args in two_way_tests a.mark a.rows.now
 
 -- the tests on the graph do not hold
 last : (c : In_default)
@@ -22,12 +22,12 @@ last : (c : In_default)
     Tried (chordal_tests a.mark a.rows.now a.room) ((10, ltb a.room (length a.rows.now)) ∷ [])
 unfolding chordal_tests refusal_of
 last c =
-    tried_first (first-tests (goal.at.In_default c).After-two_way_refusal-checked) _ (sym (ap refusal_of c.in_default.is) ∙ c.two_way_refusal-checked.ensures)
+    tried_first (first_tests (goal.at.In_default c).After-two_way_refusal-checked) _ (sym (ap refusal_of c.in_default.is) ∙ c.two_way_refusal-checked.ensures)
 
 pub returns-in-Refused : goal.returns-in-Refused
 unfolding chordal_tests refusal_of
 returns-in-Refused c =
-    refused_before (first-tests (goal.at.returns-in-Refused c).After-two_way_refusal-checked) _
+    refused_before (first_tests (goal.at.returns-in-Refused c).After-two_way_refusal-checked) _
     (sym (ap refusal_of c.in-Refused.is) ∙ c.two_way_refusal-checked.ensures)
 
 pub returns-then-room-rows : goal.returns-then-room-rows

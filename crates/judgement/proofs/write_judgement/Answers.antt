@@ -85,9 +85,9 @@ unfolding judgement judged_unless
 returns c =
     let b = c.args.sheet.now in
     let out = c.args.output.now in
-    let read-so = lent (goal.at.returns c).In_default in
+    let read_so = lent (goal.at.returns c).In_default in
     record {
-      output = c.judged_lines-length.ensures.output ∙ ap₂ (λ (r w : List ℕ). sets out 0 (judged_lines r w 7)) read-so.0 read-so.1 ∙ ap (λ (x : Option ℕ). sets out 0 (judged_unless x b)) (accepted (goal.at.returns c).In_default);
-      length = c.judged_lines-length.ensures.at ∙ ap₂ (λ (r w : List ℕ). length (judged_lines r w 7)) read-so.0 read-so.1 ∙ ap (λ (x : Option ℕ). length (judged_unless x b)) (accepted (goal.at.returns c).In_default);
+      output = c.judged_lines-length.ensures.output ∙ ap₂ (λ (r w : List ℕ). sets out 0 (judged_lines r w 7)) read_so.0 read_so.1 ∙ ap (λ (x : Option ℕ). sets out 0 (judged_unless x b)) (accepted (goal.at.returns c).In_default);
+      length = c.judged_lines-length.ensures.at ∙ ap₂ (λ (r w : List ℕ). length (judged_lines r w 7)) read_so.0 read_so.1 ∙ ap (λ (x : Option ℕ). length (judged_unless x b)) (accepted (goal.at.returns c).In_default);
       line = c.read-reading.ensures.line;
     }

@@ -1,4 +1,5 @@
 -- `labels::spread` meets its contract: what is left of the row makes of the labels, and of the running values beside them, what the row makes of
+-- them at the start, and the weights are those of the labels. The measure is the word that is left.
 use Rattle.searches.specs.Kind.{search_of}
 use Rattle.labels.specs.Words.{Weighed}
 use Rattle.labels.proofs.Spreading.{SpreadingAll}

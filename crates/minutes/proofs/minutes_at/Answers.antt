@@ -5,9 +5,6 @@ use native.Mathlib.Omega.{arith}
 use lib.ListN.{get_or-eq_default}
 use Rattle.minutes.proofs.minutes_at.Goals as goal
 
-pub overflow_cast-result : goal.overflow_cast-result
-overflow_cast-result c = omega (arith, c.shared_slice_known-1.given c.args.v)
-
 pub returns-then-v-minutes : goal.returns-then-v-minutes
 returns-then-v-minutes c = refl
 

@@ -10,7 +10,7 @@ pub loop-p-init : goal.loop-p-init
 loop-p-init c = passed_start _ _
 
 pub overflow_cast-list : goal.overflow_cast-list
-overflow_cast-list c = omega (arith, c.shared_slice_known-1.given c.loop-p.p)
+overflow_cast-list c = omega (arith, c.type_inv.list c.loop-p.p)
 
 pub returns-then-n-list : goal.returns-then-n-list
 unfolding vertex_outside

@@ -9,7 +9,7 @@ loop-u-init c = gathered_none _ _
 
 pub loop-u-preserved : goal.loop-u-preserved
 loop-u-preserved c =
-    gathered_more c.loop-u.invariant (omega arith) (c.shared_slice_known-1.given c.loop-u.u).fits (c.shared_slice_known-in-loop-u-1.given c.loop-u.u).fits
+    gathered_more c.loop-u.invariant (omega arith) (c.type_inv.rows c.loop-u.u).fits (c.type_inv.columns c.loop-u.u).fits
 
 pub returns : goal.returns
 returns c = gathered_all c.loop-u.invariant c.loop-u-test.false

@@ -89,15 +89,15 @@ loop-rest-preserved c =
     let is-level = c.tells_level-level.ensures ∙ ap is_level c.compare-answer.ensures ∙ level_answered k other c.profile_of-next.result.label best
     ∙ ap (λ (x : ℕ). not (ahead_in k x best) && not (ahead_in k best x)) of
     in
-    let at-lead = c.leader-label.ensures ∙ ap (λ (x : ℕ). cond c.tells_ahead-ahead.result x best) of in
+    let at_lead = c.leader-label.ensures ∙ ap (λ (x : ℕ). cond c.tells_ahead-ahead.result x best) of in
     let rest = sym (taken_out c.loop-rest.rest c.without_smallest-rest.ensures c.smallest-u.ensures) in
     record {
-      left = subst (λ (x : ℕ). x < 2 ^ 64) rest (leading_next k other a.labels.now (c.loop-rest.invariant.leads other) u (found (goal.at.loop-rest-preserved c).After-smallest-u).0 (found (goal.at.loop-rest-preserved c).After-smallest-u).1 is-ahead is-level c.led-best.ensures at-lead).left;
+      left = subst (λ (x : ℕ). x < 2 ^ 64) rest (leading_next k other a.labels.now (c.loop-rest.invariant.leads other) u (found (goal.at.loop-rest-preserved c).After-smallest-u).0 (found (goal.at.loop-rest-preserved c).After-smallest-u).1 is-ahead is-level c.led-best.ensures at_lead).left;
       shows =
           c.leader-weight.ensures
           ∙ either k c.tells_ahead-ahead.result c.profile_of-next.result.label best (weight_of_lem k c.profile_of-next.result own) c.loop-rest.invariant.shows c.leader-label.ensures;
       leads = λ o. subst (λ (x : ℕ). Leading k o a.labels.now (united a.known a.rivals) x c.led-best.result c.leader-label.result) rest
-          (leading_next k o a.labels.now (c.loop-rest.invariant.leads o) u (found (goal.at.loop-rest-preserved c).After-smallest-u).0 (found (goal.at.loop-rest-preserved c).After-smallest-u).1 is-ahead is-level c.led-best.ensures at-lead);
+          (leading_next k o a.labels.now (c.loop-rest.invariant.leads o) u (found (goal.at.loop-rest-preserved c).After-smallest-u).0 (found (goal.at.loop-rest-preserved c).After-smallest-u).1 is-ahead is-level c.led-best.ensures at_lead);
     }
 
 pub returns : goal.returns

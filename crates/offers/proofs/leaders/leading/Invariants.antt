@@ -1,4 +1,5 @@
 -- `offers::leaders::leading` meets its contract: of those that were met so far, the leaders are the ones that none is ahead of. The measure is the word
+-- that is left.
 use Prim.Native.Nat.{ℕ, ◌<◌, ◌^◌}
 use mathlib.Core.Path.{◌≡◌}
 use mathlib.Core.List.{List}

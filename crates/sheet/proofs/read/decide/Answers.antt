@@ -75,8 +75,8 @@ pub returns-then-good-eq0 : goal.returns-then-good-eq0
 unfolding parsed_answer parsed_tests parsed_line number
 returns-then-good-eq0 c =
     let p = parsed (goal.at.returns-then-good-eq0 c).Start in
-    let none-good = c.if-good-eq0.true in
-    let whole = refused_so p Refusal.MalformedSheet 1 c.refused.ensures (refused_here (tried_none (parsed_tests p)) (eq-eqb p.good 0 none-good)) (omega (arith, none-good)) in
+    let none_good = c.if-good-eq0.true in
+    let whole = refused_so p Refusal.MalformedSheet 1 c.refused.ensures (refused_here (tried_none (parsed_tests p)) (eq-eqb p.good 0 none_good)) (omega (arith, none_good)) in
     record { answer = whole.0; line = whole.1 }
 
 pub returns-then-content-gt64 : goal.returns-then-content-gt64

@@ -83,12 +83,12 @@ early_is c =
 
 pub offered_after-offered-requires : goal.offered_after-offered-requires
 offered_after-offered-requires c =
-    let at-labels = (spread_is c).0 in (
-      placed_narrows c.requires at-labels c.remove-free.ensures c.remove-stay.ensures (grown (goal.at.offered_after-offered-requires c).After-common-grown),
-      placed_covers c.requires at-labels (reached_is (goal.at.offered_after-offered-requires c).After-union-reached),
-      placed_reaches c.requires at-labels (reached_is (goal.at.offered_after-offered-requires c).After-union-reached) c.remove-free.ensures,
+    let at_labels = (spread_is c).0 in (
+      placed_narrows c.requires at_labels c.remove-free.ensures c.remove-stay.ensures (grown (goal.at.offered_after-offered-requires c).After-common-grown),
+      placed_covers c.requires at_labels (reached_is (goal.at.offered_after-offered-requires c).After-union-reached),
+      placed_reaches c.requires at_labels (reached_is (goal.at.offered_after-offered-requires c).After-union-reached) c.remove-free.ensures,
       c.spread.ensures.weights,
-      placed_leads c.args.kind.0 c.requires at-labels c.remove-free.ensures (reached_is (goal.at.offered_after-offered-requires c).After-union-reached) (early_is (goal.at.offered_after-offered-requires c).After-common-early) (grown (goal.at.offered_after-offered-requires c).After-common-grown),
+      placed_leads c.args.kind.0 c.requires at_labels c.remove-free.ensures (reached_is (goal.at.offered_after-offered-requires c).After-union-reached) (early_is (goal.at.offered_after-offered-requires c).After-common-early) (grown (goal.at.offered_after-offered-requires c).After-common-grown),
     )
 
 pub returns : goal.returns

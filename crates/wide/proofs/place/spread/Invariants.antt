@@ -1,4 +1,5 @@
 -- `wide::place::spread` meets its contract: the vertices of the word that are not in what is left of it have the position. The measure is the word that
+-- is left.
 use Rattle.searches.specs.Kind.{search_of}
 use Rattle.wide.proofs.Spreading.{Spreading}
 use Rattle.wide.proofs.place.spread.Given as goal
