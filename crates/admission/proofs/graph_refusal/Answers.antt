@@ -1,12 +1,11 @@
 -- `admission::graph_refusal` meets its contract: each answer is given after the tests before it were tried, each on all rows.
 -- Assumes nothing.
 use mathlib.Core.List.{List}
-use mathlib.Core.Logic.{inl, inr}
-use mathlib.Core.Path.{refl, sym, ◌∙◌}
+use mathlib.Core.Logic.{◌⊎◌, inl, inr, ⊎_elim}
+use mathlib.Core.Path.{◌≡◌, refl, sym, ◌∙◌}
 use mathlib.Core.Bool.{Bool, not, ◌||◌}
-use Prim.Native.Nat.{ℕ, ◌*◌, ◌/◌, ◌%◌}
+use Prim.Native.Nat.{ℕ, ◌*◌, ◌/◌, ◌%◌, ◌<◌, ◌≤◌}
 use native.Mathlib.Omega.{arith}
-use borrow.Author.Tests.{ltb-false}
 use lib.Dec.{T, eqb, ltb, ltb→lt, lt→ltb}
 use lib.ListN.{length, take, drop}
 use Rattle.bitset.proofs.Tests.{said_true, said_false}
@@ -18,7 +17,7 @@ use Rattle.admission.specs.Checked.{IsTable}
 use Rattle.admission.proofs.Outside.{outside_table, loop_table, one_way_table}
 use Rattle.admission.proofs.Tried.{refused, refused_behind, accepted_behind, five_dropped, five_tried, five_passed, uneven, too_many, sized}
 use Rattle.admission.proofs.graph_refusal.Goals as goal
-use Rattle.admission.proofs.graph_refusal.Goals.{Start, Else-bit_outside, Else-kind, Else-n-gt512, Else-self_loop, then-length-ne0-via-then-length-ne0, then-length-ne0-via-else-length-ne0+then-n-gt512}
+use Rattle.admission.proofs.graph_refusal.Goals.{Start, Else-bit_outside, Else-kind, Else-self_loop}
 
 abbrev kind_of : Start → ℕ
 kind_of c = c.args.kind.0
@@ -37,11 +36,15 @@ tests c = open_tests_wide 8 (kind_of c) (mark_of c) (table_of c)
 known : (c : Else-kind) → T (ltb 6 (kind_of (goal.at.Else-kind c).Start)) → ⊥
 known c t = omega (arith, ltb→lt 6 (kind_of (goal.at.Else-kind c).Start) t, c.if-kind.false)
 
-in_size : (c : Else-n-gt512) → let table = table_of (goal.at.Else-n-gt512 c).Start in T (not (eqb (length table % 8) 0) || ltb (64 * 8) (size_wide 8 table)) → ⊥
-in_size c = sized (table_of (goal.at.Else-n-gt512 c).Start) c.if-length-ne0.false (omega (arith, ltb-false, c.if-n-gt512.false))
+-- the bounds of the table are facts of numbers, found by what they say and not by where they were tried
+is_table : (table : List ℕ) → length table % 8 ≡ 0 → length table / 8 ≤ 512 → IsTable (length table / 8) table
+is_table table even l = record { small = l; whole = omega arith }
 
-is_table : (c : Else-n-gt512) → let table = table_of (goal.at.Else-n-gt512 c).Start in IsTable (length table / 8) table
-is_table c = record { small = omega (arith, ltb-false, c.if-n-gt512.false); whole = omega (arith, c.if-length-ne0.false) }
+wrong_size : (table : List ℕ) → (length table % 8 ≡ 0 → ⊥) ⊎ (512 < length table / 8) → T (not (eqb (length table % 8) 0) || ltb (64 * 8) (size_wide 8 table))
+wrong_size table which = ⊎_elim (uneven table) (too_many table) which
+
+in_size : (c : Else-bit_outside) → let table = table_of (goal.at.Else-bit_outside c).Start in T (not (eqb (length table % 8) 0) || ltb (64 * 8) (size_wide 8 table)) → ⊥
+in_size c = sized (table_of (goal.at.Else-bit_outside c).Start) (omega arith) (omega arith)
 
 inside : (c : Else-bit_outside) → T (bit_outside_wide 8 (table_of (goal.at.Else-bit_outside c).Start)) → ⊥
 inside c = said_false _ (c.bit_outside.ensures ∙ sym (outside_table _)) c.if-bit_outside.false
@@ -51,7 +54,7 @@ unlooped c = said_false _ (c.self_loop.ensures ∙ sym (loop_table _)) c.if-self
 
 passed_3 : (c : Else-bit_outside) → Accepts (take 3 (tests (goal.at.Else-bit_outside c).Start))
 unfolding open_tests_wide
-passed_3 c = (known (goal.at.Else-bit_outside c).Else-kind, (in_size (goal.at.Else-bit_outside c).Else-n-gt512, (inside c, tt)))
+passed_3 c = (known (goal.at.Else-bit_outside c).Else-kind, (in_size c, (inside c, tt)))
 
 passed_4 : (c : Else-self_loop) → Accepts (take 4 (tests (goal.at.Else-self_loop c).Start))
 unfolding open_tests_wide
@@ -68,20 +71,20 @@ unfolding open_tests_wide number refusal_of
 returns-then-length-ne0 c =
     let table = table_of (goal.at.returns-then-length-ne0 c).Start in
     refused (tests (goal.at.returns-then-length-ne0 c).Start) 2
-    (inr (known (goal.at.returns-then-length-ne0 c).Else-kind, inl (refl, elim c.then-length-ne0.branch [ then-length-ne0-via-then-length-ne0 w ↦ uneven table w.if-length-ne0.true | then-length-ne0-via-else-length-ne0+then-n-gt512 w ↦ too_many table (omega (arith, w.if-n-gt512.true)) ])))
+    (inr (known (goal.at.returns-then-length-ne0 c).Else-kind, inl (refl, wrong_size table (grind arith))))
 
 pub bit_outside-requires : goal.bit_outside-requires
-bit_outside-requires c = is_table c
+bit_outside-requires c = is_table (table_of (goal.at.bit_outside-requires c).Start) (omega arith) (omega arith)
 
 pub returns-then-bit_outside : goal.returns-then-bit_outside
 unfolding open_tests_wide number refusal_of
 returns-then-bit_outside c =
     let table = table_of (goal.at.returns-then-bit_outside c).Start in
     refused (tests (goal.at.returns-then-bit_outside c).Start) 3
-    (inr (known (goal.at.returns-then-bit_outside c).Else-kind, inr (in_size (goal.at.returns-then-bit_outside c).Else-n-gt512, inl (refl, said_true (bit_outside_wide 8 table) (c.bit_outside.ensures ∙ sym (outside_table table)) c.if-bit_outside.true))))
+    (inr (known (goal.at.returns-then-bit_outside c).Else-kind, inr (sized table (omega arith) (omega arith), inl (refl, said_true (bit_outside_wide 8 table) (c.bit_outside.ensures ∙ sym (outside_table table)) c.if-bit_outside.true))))
 
 pub self_loop-requires : goal.self_loop-requires
-self_loop-requires c = is_table (goal.at.self_loop-requires c).Else-n-gt512
+self_loop-requires c = is_table (table_of (goal.at.self_loop-requires c).Start) (omega arith) (omega arith)
 
 pub returns-then-self_loop : goal.returns-then-self_loop
 unfolding open_tests_wide number refusal_of
@@ -98,7 +101,7 @@ returns-in-OneWay c =
 
 pub one_way-requires : goal.one_way-requires
 one_way-requires c =
-    (is_table (goal.at.one_way-requires c).Else-n-gt512, sym c.bit_outside.ensures ∙ c.if-bit_outside.false)
+    (is_table (table_of (goal.at.one_way-requires c).Start) (omega arith) (omega arith), sym c.bit_outside.ensures ∙ c.if-bit_outside.false)
 
 pub returns-then-one_way : goal.returns-then-one_way
 unfolding open_tests_wide number refusal_of

@@ -1,22 +1,25 @@
--- `checks::graph_refusal` meets its contract: each answer is given after the tests before it were tried, each on all rows.
+-- `checks::graph_refusal` meets its contract: each answer is given after the tests before it were tried, each on all rows. The facts on the tests are found by what they say, and not by name.
 -- Assumes nothing.
 use mathlib.Core.List.{List}
-use mathlib.Core.Path.{◌≡◌, sym, ap, ◌∙◌}
-use mathlib.Core.Bool.{Bool, false, ◌&&◌}
-use Prim.Native.Nat.{ℕ}
-use lib.ListN.{drop}
+use mathlib.Core.Path.{◌≡◌, ap, ◌∙◌}
+use mathlib.Core.Bool.{Bool, true, false, ◌&&◌}
+use mathlib.Core.Option.{none, some}
+use Prim.Native.Nat.{ℕ, ◌≤◌, ◌<◌}
+use lib.ListN.{drop, length}
 use native.Mathlib.Omega.{arith}
+use Rattle.std.proofs.Common.{rules}
 use borrow.Author.Tests.{lt-ltb, le-ltb}
+use Rattle.bitset.specs.Below.{first_below}
 use Rattle.bitset.specs.Word.{from_up}
 use Rattle.bitset.proofs.Tests.{is_true, is_false}
 use Rattle.bitset.proofs.Passed.{some_found, none_found}
 use Rattle.searches.specs.Ordering.{arcs}
-use Rattle.searches.specs.Answer.{bit_outside, self_loop, is_two_way, open_tests, number, refusal_of}
+use Rattle.searches.specs.Answer.{bit_outside, self_loop, one_way, is_two_way, open_tests, first_refusal, number, refusal_of}
 use Rattle.searches.specs.declared.Mark.{Mark}
 use Rattle.lookup.specs.Row.{outside_at, loop_at, refused_at}
 use Rattle.checks.proofs.Tried.{Tried, tried_none, tried_one, refused_here, accepted_here}
 use Rattle.checks.proofs.graph_refusal.Goals as goal
-use Rattle.checks.proofs.graph_refusal.Goals.{Start, Else-kind, Else-looped-n, Else-n-gt64, Else-one_way, Else-outside-n, In-OneWay}
+use Rattle.checks.proofs.graph_refusal.Goals.{Start}
 
 abbrev tests : Start → List (ℕ × Bool)
 tests c = open_tests c.args.kind.0 c.args.mark c.args.rows.now
@@ -25,25 +28,38 @@ tests c = open_tests c.args.kind.0 c.args.mark c.args.rows.now
 abbrev Past : ℕ → Start → Type 0
 Past i c = Tried (tests c) (drop i (tests c))
 
-past_1 : (c : Else-kind) → Past 1 (goal.at.Else-kind c).Start
+past_1 : (s : Start) → s.args.kind.0 ≤ 6 → Past 1 s
 unfolding open_tests
-past_1 c = tried_one (tried_none _) (le-ltb _ _ c.if-kind.false)
+past_1 s known = tried_one (tried_none _) (le-ltb _ _ known)
 
-past_2 : (c : Else-n-gt64) → Past 2 (goal.at.Else-n-gt64 c).Start
+past_2 : (s : Start) → s.args.kind.0 ≤ 6 → length s.args.rows.now ≤ 64 → Past 2 s
 unfolding open_tests
-past_2 c = tried_one (past_1 (goal.at.Else-n-gt64 c).Else-kind) (le-ltb _ _ c.if-n-gt64.false)
+past_2 s known fits = tried_one (past_1 s known) (le-ltb _ _ fits)
 
-no_bit_outside : (c : Else-outside-n) → bit_outside c.args.rows.now ≡ false
+past_3 : (s : Start) → s.args.kind.0 ≤ 6 → length s.args.rows.now ≤ 64 → bit_outside s.args.rows.now ≡ false → Past 3 s
+unfolding open_tests
+past_3 s known fits inside = tried_one (past_2 s known fits) inside
+
+past_4 : (s : Start) → s.args.kind.0 ≤ 6 → length s.args.rows.now ≤ 64 → bit_outside s.args.rows.now ≡ false → self_loop s.args.rows.now ≡ false → Past 4 s
+unfolding open_tests
+past_4 s known fits inside apart = tried_one (past_3 s known fits inside) apart
+
+-- the first row that is refused for 3, or for 4, says whether one is
+none_outside : (rows : List ℕ) (r : ℕ) → r ≡ first_below (length rows) (refused_at 3 rows) → length rows ≤ r → bit_outside rows ≡ false
 unfolding bit_outside refused_at outside_at from_up arcs
-no_bit_outside c = is_false _ (none_found _ _ _ c.first_refused-outside.ensures c.if-outside-n.false)
+none_outside rows r first no_row = is_false _ (none_found _ _ _ first no_row)
 
-past_3 : (c : Else-outside-n) → Past 3 (goal.at.Else-outside-n c).Start
-unfolding open_tests
-past_3 c = tried_one (past_2 (goal.at.Else-outside-n c).Else-n-gt64) (no_bit_outside c)
+some_outside : (rows : List ℕ) (r : ℕ) → r ≡ first_below (length rows) (refused_at 3 rows) → r < length rows → bit_outside rows ≡ true
+unfolding bit_outside refused_at outside_at from_up arcs
+some_outside rows r first a_row = is_true _ (some_found _ _ _ first a_row)
 
-past_4 : (c : Else-looped-n) → Past 4 (goal.at.Else-looped-n c).Start
-unfolding open_tests self_loop refused_at loop_at
-past_4 c = tried_one (past_3 (goal.at.Else-looped-n c).Else-outside-n) (is_false _ (none_found _ _ _ c.first_refused-looped.ensures c.if-looped-n.false))
+none_looped : (rows : List ℕ) (r : ℕ) → r ≡ first_below (length rows) (refused_at 4 rows) → length rows ≤ r → self_loop rows ≡ false
+unfolding self_loop refused_at loop_at
+none_looped rows r first no_row = is_false _ (none_found _ _ _ first no_row)
+
+some_looped : (rows : List ℕ) (r : ℕ) → r ≡ first_below (length rows) (refused_at 4 rows) → r < length rows → self_loop rows ≡ true
+unfolding self_loop refused_at loop_at
+some_looped rows r first a_row = is_true _ (some_found _ _ _ first a_row)
 
 -- refusal 5 is tried as the mark says
 five_dropped : {mark : Mark} (b : Bool) → mark ≡ Mark.OneWay → (is_two_way mark && b) ≡ false
@@ -54,23 +70,49 @@ five_tried : {mark : Mark} {b : Bool} (a : Bool) → mark ≡ Mark.TwoWay → b 
 unfolding is_two_way
 five_tried {b = b} a e same = ap (λ (m : Mark). is_two_way m && b) e ∙ same
 
-past_5 : (c : Else-one_way) → Past 5 (goal.at.Else-one_way c).Start
+past_5 : (s : Start) → s.args.kind.0 ≤ 6 → length s.args.rows.now ≤ 64 → bit_outside s.args.rows.now ≡ false → self_loop s.args.rows.now ≡ false
+    → (is_two_way s.args.mark && one_way s.args.rows.now) ≡ false
+    → Past 5 s
 unfolding open_tests
-past_5 c =
-    tried_one (past_4 (goal.at.Else-one_way c).Else-looped-n)
-    (five_tried _ c.in_default.is (sym c.one_way.ensures ∙ c.if-one_way.false))
+past_5 s known fits inside apart both = tried_one (past_4 s known fits inside apart) both
 
-not_tried_5 : (c : In-OneWay) → Past 5 (goal.at.In-OneWay c).Start
+-- the test that holds, by what it says
+unknown_kind : (s : Start) → 6 < s.args.kind.0 → some 1 ≡ first_refusal (tests s)
 unfolding open_tests
-not_tried_5 c = tried_one (past_4 (goal.at.In-OneWay c).Else-looped-n) (five_dropped _ c.in-OneWay.is)
+unknown_kind s unknown = refused_here (tried_none _) (lt-ltb _ _ unknown)
+
+too_many : (s : Start) → s.args.kind.0 ≤ 6 → 64 < length s.args.rows.now → some 2 ≡ first_refusal (tests s)
+unfolding open_tests
+too_many s known many = refused_here (past_1 s known) (lt-ltb _ _ many)
+
+outside_first : (s : Start) → s.args.kind.0 ≤ 6 → length s.args.rows.now ≤ 64 → bit_outside s.args.rows.now ≡ true → some 3 ≡ first_refusal (tests s)
+unfolding open_tests
+outside_first s known fits outside = refused_here (past_2 s known fits) outside
+
+looped_first : (s : Start) → s.args.kind.0 ≤ 6 → length s.args.rows.now ≤ 64 → bit_outside s.args.rows.now ≡ false → self_loop s.args.rows.now ≡ true
+    → some 4 ≡ first_refusal (tests s)
+unfolding open_tests
+looped_first s known fits inside looped = refused_here (past_3 s known fits inside) looped
+
+five_first : (s : Start) → s.args.kind.0 ≤ 6 → length s.args.rows.now ≤ 64 → bit_outside s.args.rows.now ≡ false → self_loop s.args.rows.now ≡ false
+    → (is_two_way s.args.mark && one_way s.args.rows.now) ≡ true
+    → some 5 ≡ first_refusal (tests s)
+unfolding open_tests
+five_first s known fits inside apart one = refused_here (past_4 s known fits inside apart) one
+
+none_first : (s : Start) → s.args.kind.0 ≤ 6 → length s.args.rows.now ≤ 64 → bit_outside s.args.rows.now ≡ false → self_loop s.args.rows.now ≡ false
+    → (is_two_way s.args.mark && one_way s.args.rows.now) ≡ false
+    → none ≡ first_refusal (tests s)
+unfolding open_tests
+none_first s known fits inside apart both = accepted_here (past_5 s known fits inside apart both)
 
 pub returns-then-kind : goal.returns-then-kind
-unfolding open_tests number refusal_of
-returns-then-kind c = refused_here (tried_none _) (lt-ltb _ _ c.if-kind.true)
+unfolding number refusal_of
+returns-then-kind c = unknown_kind (goal.at.returns-then-kind c).Start (omega arith)
 
 pub returns-then-n-gt64 : goal.returns-then-n-gt64
-unfolding open_tests number refusal_of
-returns-then-n-gt64 c = refused_here (past_1 (goal.at.returns-then-n-gt64 c).Else-kind) (lt-ltb _ _ c.if-n-gt64.true)
+unfolding number refusal_of
+returns-then-n-gt64 c = too_many (goal.at.returns-then-n-gt64 c).Start (omega arith) (omega arith)
 
 pub first_refused-outside-requires : goal.first_refused-outside-requires
 first_refused-outside-requires c = tt
@@ -79,27 +121,33 @@ pub first_refused-looped-requires : goal.first_refused-looped-requires
 first_refused-looped-requires c = tt
 
 pub returns-then-outside-n : goal.returns-then-outside-n
-unfolding open_tests number refusal_of bit_outside refused_at outside_at from_up arcs
+unfolding number refusal_of
 returns-then-outside-n c =
-    refused_here (past_2 (goal.at.returns-then-outside-n c).Else-n-gt64) (is_true _ (some_found _ _ _ c.first_refused-outside.ensures c.if-outside-n.true))
+    outside_first (goal.at.returns-then-outside-n c).Start (omega arith) (omega arith) (some_outside _ _ c.first_refused-outside.ensures (omega arith))
 
 pub returns-then-looped-n : goal.returns-then-looped-n
-unfolding open_tests number refusal_of self_loop refused_at loop_at
-returns-then-looped-n c = refused_here (past_3 (goal.at.returns-then-looped-n c).Else-outside-n) (is_true _ (some_found _ _ _ c.first_refused-looped.ensures c.if-looped-n.true))
+unfolding number refusal_of
+returns-then-looped-n c =
+    looped_first (goal.at.returns-then-looped-n c).Start (omega arith) (omega arith) (none_outside _ _ c.first_refused-outside.ensures (omega arith))
+    (some_looped _ _ c.first_refused-looped.ensures (omega arith))
 
 pub returns-in-OneWay : goal.returns-in-OneWay
-unfolding open_tests number refusal_of
-returns-in-OneWay c = accepted_here (not_tried_5 c)
+unfolding number refusal_of
+returns-in-OneWay c =
+    none_first (goal.at.returns-in-OneWay c).Start (omega arith) (omega arith) (none_outside _ _ c.first_refused-outside.ensures (omega arith))
+    (none_looped _ _ c.first_refused-looped.ensures (omega arith)) (five_dropped _ (search rules))
 
 pub one_way-requires : goal.one_way-requires
-one_way-requires c = (omega arith, no_bit_outside (goal.at.one_way-requires c).Else-outside-n)
+one_way-requires c = (omega arith, none_outside _ _ c.first_refused-outside.ensures (omega arith))
 
 pub returns-then-one_way : goal.returns-then-one_way
-unfolding open_tests number refusal_of
+unfolding number refusal_of
 returns-then-one_way c =
-    refused_here (past_4 (goal.at.returns-then-one_way c).Else-looped-n)
-    (five_tried _ c.in_default.is (sym c.one_way.ensures ∙ c.if-one_way.true))
+    five_first (goal.at.returns-then-one_way c).Start (omega arith) (omega arith) (none_outside _ _ c.first_refused-outside.ensures (omega arith))
+    (none_looped _ _ c.first_refused-looped.ensures (omega arith)) (five_tried _ (search rules) (search rules))
 
 pub returns : goal.returns
-unfolding open_tests number refusal_of
-returns c = accepted_here (past_5 c)
+unfolding number refusal_of
+returns c =
+    none_first (goal.at.returns c).Start (omega arith) (omega arith) (none_outside _ _ c.first_refused-outside.ensures (omega arith))
+    (none_looped _ _ c.first_refused-looped.ensures (omega arith)) (five_tried _ (search rules) (search rules))

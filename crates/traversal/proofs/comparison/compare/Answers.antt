@@ -1,14 +1,14 @@
 -- `traversal::comparison::compare` meets its contract: each refusal is given after the tests before it were tried, and where none applies the words of
--- the moment tell how the two stand.
+-- the moment tell how the two stand. The facts on the tests are found by what they say, and not by name.
 -- Assumes nothing.
 use mathlib.Core.Path.{◌≡◌, sym, ap, ap₂, ◌∙◌, subst}
-use mathlib.Core.Bool.{Bool, not, ◌||◌, not-not}
-use mathlib.Core.List.{List}
+use mathlib.Core.Bool.{Bool, false, not, ◌||◌, not-not}
 use Prim.Native.Nat.{ℕ, ◌<◌}
 use native.Mathlib.Omega.{arith}
+use Rattle.std.proofs.Common.{rules}
 use borrow.Author.Tests.{leb-false}
 use lib.Dec.{T, leb}
-use lib.ListN.{drop, get_or}
+use lib.ListN.{drop, get_or, length}
 use Rattle.bitset.proofs.Tests.{not_false, or_false, said_true}
 use Rattle.bitset.specs.Word.{member}
 use Rattle.searches.specs.Kind.{search_of}
@@ -17,145 +17,135 @@ use Rattle.searches.specs.Answer.{number}
 use Rattle.checks.proofs.Tried.{Tried, tried_none, tried_one, refused_here, accepted_here}
 use Rattle.labels.specs.Words.{Weighed, profile_of, compared_in}
 use Rattle.labels.proofs.Profiles.{label_of, profile_own, profile_kept}
+use Rattle.engine.specs.declared.after.Moment.{Moment}
 use Rattle.traversal.specs.declared.Traversal.{Traversal}
-use Rattle.traversal.specs.State.{state, plan, walk, well_formed, WellFormed}
-use Rattle.traversal.specs.Compare.{compare_tests, told, report_of}
+use Rattle.traversal.specs.State.{state, walk, well_formed, surveyed, WellFormed}
+use Rattle.traversal.specs.Compare.{compare_tests, stance, told, report_of}
 use Rattle.traversal.proofs.WellFormed.{surveyed_passes, surveyed_words, surveyed_weighed, well_formed_out, free_offers, compared_stance}
 use Rattle.traversal.proofs.Telling.{report_refused, report_told}
 use Rattle.traversal.proofs.comparison.compare.Goals as goal
-use Rattle.traversal.proofs.comparison.compare.Goals.{After-profile_of-b, After-profile_of-c, After-survey-moment, Else-not-moment, Else-out_of_service, Else-outside, Else-taken, Start}
+use Rattle.traversal.proofs.comparison.compare.Goals.{After-profile_of-b, After-profile_of-c, Start}
 
 abbrev asked : Start → Traversal
 asked s = state s.args.kind s.args.mark s.args.n s.args.rows.now s.args.barred s.args.k s.args.ordering.now
 
-abbrev tests : Start → List (ℕ × Bool)
-tests s = compare_tests (asked s) s.args.first.0 s.args.second.0
-
 -- the first i tests do not hold
-abbrev Past : ℕ → Start → Type 0
-Past i s = Tried (tests s) (drop i (tests s))
+abbrev Past : ℕ → Traversal → ℕ → ℕ → Type 0
+Past i t u v = Tried (compare_tests t u v) (drop i (compare_tests t u v))
 
 -- ---- what is known once 13 does not apply
 
--- what survey says of the state
-well : (c : After-survey-moment) → c.survey-moment.result.passes ≡ well_formed (asked (goal.at.After-survey-moment c).Start)
-well c = surveyed_passes (asked (goal.at.After-survey-moment c).Start) c.survey-moment.ensures
+module _ (t : Traversal) (full : (length t.rows ≡ 64) × (length t.ordering ≡ 64)) {m : Moment} (is : m ≡ surveyed t) (passes : not m.passes ≡ false) where
+  sound : T (well_formed t)
+  sound = subst (λ (b : Bool). T b) (sym (not_false m.passes passes) ∙ surveyed_passes t is) tt
 
-sound : (c : Else-not-moment) → T (well_formed (asked (goal.at.Else-not-moment c).Start))
-sound c = subst (λ (b : Bool). T b) (sym (not_false c.survey-moment.result.passes c.if-not-moment.false) ∙ well (goal.at.Else-not-moment c).After-survey-moment) tt
+  formed : WellFormed t
+  formed = well_formed_out t full.0 full.1 sound
 
-formed : (c : Else-not-moment) → WellFormed (asked (goal.at.Else-not-moment c).Start)
-formed c = well_formed_out (asked (goal.at.Else-not-moment c).Start) c.requires.0 c.requires.1 (sound c)
+  weighed : Weighed (search_of t.kind.0) m.labels m.weights
+  weighed = surveyed_weighed t full.0 full.1 is sound
 
-weighed : (c : Else-not-moment)
-    → let m = c.survey-moment.result in
-    Weighed (search_of c.args.kind.0) m.labels m.weights
-weighed c = surveyed_weighed (asked (goal.at.Else-not-moment c).Start) c.requires.0 c.requires.1 c.survey-moment.ensures (sound c)
+  -- two that are unplaced stand as their labels do
+  stands : (u v : ℕ) → T (member m.free u) → T (member m.free v)
+      → compared_in (search_of t.kind.0) (get_or m.labels u 0) (get_or m.labels v 0) ≡ stance t u v
+  stands u v first second =
+      let words = surveyed_words t full.0 full.1 is sound in
+      compared_stance t full.0 full.1 formed words.0 words.1 u v first second
 
--- ---- and once 8 does not
+  -- who is not unplaced is placed
+  stands_in_lem : (v : ℕ) {r : Bool} → v < t.n → member t.barred v ≡ false → r ≡ member m.free v → placed (walk t) t.k v ≡ not r
+  stands_in_lem v l out e =
+      let words = surveyed_words t full.0 full.1 is sound in
+      sym (ap not (e ∙ free_offers t full.0 full.1 formed words.0 words.1 v l (λ x. subst (λ (b : Bool). T b) out x)) ∙ not-not (placed (walk t) t.k v))
 
-inside : (c : Else-outside) → let a = c.args in (a.first.0 < a.n) × (a.second.0 < a.n)
-inside c =
-    let a = c.args in
-    let both = or_false (leb a.n a.first.0) (leb a.n a.second.0) c.if-outside.false in
-    (leb-false a.n a.first.0 both.0, leb-false a.n a.second.0 both.1)
+  past_1 : (u v : ℕ) → Past 1 t u v
+  unfolding compare_tests
+  past_1 u v = tried_one (tried_none _) (ap not (sym (surveyed_passes t is)) ∙ passes)
 
--- both are numbers of labels
-below_64 : (c : Else-outside) → let a = c.args in (a.first.0 < 64) × (a.second.0 < 64)
-below_64 c = let points = (formed (goal.at.Else-outside c).Else-not-moment).points in (omega (arith, (inside c).0, points), omega (arith, (inside c).1, points))
+  -- ---- and once 8 does not
 
--- whether one of the two is barred
-either_barred : (c : Else-outside)
-    → let a = c.args in
-    (member a.barred a.first.0 || member a.barred a.second.0) ≡ (c.contains.result || c.contains-2.result)
-either_barred c =
-    ap₂ (λ (x y : Bool). x || y) (sym c.contains.ensures) (sym c.contains-2.ensures)
+  module _ (u v : ℕ) (within : (leb t.n u || leb t.n v) ≡ false) where
+    inside : (u < t.n) × (v < t.n)
+    inside =
+        let both = or_false (leb t.n u) (leb t.n v) within in
+        (leb-false t.n u both.0, leb-false t.n v both.1)
 
--- ---- and once 24 does not
+    -- both are numbers of labels
+    below_64 : (u < 64) × (v < 64)
+    below_64 = (omega (arith, inside.0, formed.points), omega (arith, inside.1, formed.points))
 
-in_service_lem : (c : Else-out_of_service)
-    → let a = c.args in
-    (T (member a.barred a.first.0) → ⊥) × (T (member a.barred a.second.0) → ⊥)
-in_service_lem c =
-    let a = c.args in
-    let none = either_barred (goal.at.Else-out_of_service c).Else-outside ∙ c.if-out_of_service.false in
-    let both = or_false (member a.barred a.first.0) (member a.barred a.second.0) none in
-    (λ t. subst (λ (b : Bool). T b) both.0 t, λ t. subst (λ (b : Bool). T b) both.1 t)
+    past_2 : Past 2 t u v
+    unfolding compare_tests
+    past_2 = tried_one (past_1 u v) within
 
--- who is not unplaced is placed
-stands_in_lem : (c : Else-out_of_service) (v : ℕ) {r : Bool}
-    → v < c.args.n → (T (member c.args.barred v) → ⊥) → r ≡ member c.survey-moment.result.free v
-    → placed (walk (asked (goal.at.Else-out_of_service c).Start)) c.args.k v ≡ not r
-unfolding plan walk
-stands_in_lem c v l out e =
-    let words = surveyed_words (asked (goal.at.Else-out_of_service c).Start) c.requires.0 c.requires.1 c.survey-moment.ensures (sound (goal.at.Else-out_of_service c).Else-not-moment) in
-    sym (ap not (e ∙ free_offers (asked (goal.at.Else-out_of_service c).Start) c.requires.0 c.requires.1 (formed (goal.at.Else-out_of_service c).Else-not-moment) words.0 words.1 v l out) ∙ not-not (placed (walk (asked (goal.at.Else-out_of_service c).Start)) c.args.k v))
+    -- ---- and once 24 does not
 
-either_placed : (c : Else-out_of_service)
-    → (placed (walk (asked (goal.at.Else-out_of_service c).Start)) c.args.k c.args.first.0 || placed (walk (asked (goal.at.Else-out_of_service c).Start)) c.args.k c.args.second.0)
-    ≡ (not c.contains-3.result || not c.contains-4.result)
-either_placed c =
-    let a = c.args in
-    let within = inside (goal.at.Else-out_of_service c).Else-outside in
-    ap₂ (λ (x y : Bool). x || y) (stands_in_lem c a.first.0 within.0 (in_service_lem c).0 c.contains-3.ensures)
-    (stands_in_lem c a.second.0 within.1 (in_service_lem c).1 c.contains-4.ensures)
+    module _ (in_service : (member t.barred u || member t.barred v) ≡ false) where
+      either_placed : {a b : Bool} → a ≡ member m.free u → b ≡ member m.free v → (placed (walk t) t.k u || placed (walk t) t.k v) ≡ (not a || not b)
+      either_placed first second =
+          let both = or_false (member t.barred u) (member t.barred v) in_service in
+          ap₂ (λ (x y : Bool). x || y) (stands_in_lem u inside.0 both.0 first) (stands_in_lem v inside.1 both.1 second)
 
--- ---- the tests in their order
+      past_3 : Past 3 t u v
+      unfolding compare_tests
+      past_3 = tried_one past_2 in_service
 
-past_1 : (c : Else-not-moment) → Past 1 (goal.at.Else-not-moment c).Start
-unfolding compare_tests
-past_1 c = tried_one (tried_none _) (ap not (sym (well (goal.at.Else-not-moment c).After-survey-moment)) ∙ c.if-not-moment.false)
+      past_4 : {a b : Bool} → a ≡ member m.free u → b ≡ member m.free v → (not a || not b) ≡ false → Past 4 t u v
+      unfolding compare_tests
+      past_4 first second free = tried_one past_3 (either_placed first second ∙ free)
 
-past_2 : (c : Else-outside) → Past 2 (goal.at.Else-outside c).Start
-unfolding compare_tests
-past_2 c = tried_one (past_1 (goal.at.Else-outside c).Else-not-moment) c.if-outside.false
+-- two answers on two tests, where either holds or none
+either : {a b x y c : Bool} → a ≡ x → b ≡ y → (a || b) ≡ c → (x || y) ≡ c
+either first second is = ap₂ (λ (x y : Bool). x || y) (sym first) (sym second) ∙ is
 
-past_3 : (c : Else-out_of_service) → Past 3 (goal.at.Else-out_of_service c).Start
-unfolding compare_tests
-past_3 c = tried_one (past_2 (goal.at.Else-out_of_service c).Else-outside) (either_barred (goal.at.Else-out_of_service c).Else-outside ∙ c.if-out_of_service.false)
-
-past_4 : (c : Else-taken) → Past 4 (goal.at.Else-taken c).Start
-unfolding compare_tests
-past_4 c = tried_one (past_3 (goal.at.Else-taken c).Else-out_of_service) (either_placed (goal.at.Else-taken c).Else-out_of_service ∙ c.if-taken.false)
+-- both are unplaced
+unplaced : (free u v : ℕ) {a b : Bool} → a ≡ member free u → b ≡ member free v → (not a || not b) ≡ false → T (member free u) × T (member free v)
+unplaced free u v {a} {b} first second none =
+    let both = or_false (not a) (not b) none in
+    (said_true (member free u) first (not_false _ both.0), said_true (member free v) second (not_false _ both.1))
 
 pub returns-then-not-moment : goal.returns-then-not-moment
 unfolding compare_tests number report_of
 returns-then-not-moment c =
-    report_refused (asked (goal.at.returns-then-not-moment c).Start) c.args.first.0 c.args.second.0 (refused_here (tried_none _) (ap not (sym (well (goal.at.returns-then-not-moment c).After-survey-moment)) ∙ c.if-not-moment.true))
+    let t : Traversal = asked (goal.at.returns-then-not-moment c).Start in
+    report_refused t c.args.first.0 c.args.second.0 (refused_here (tried_none _) (ap not (sym (surveyed_passes t c.survey-moment.ensures)) ∙ search rules))
 
 pub returns-then-outside : goal.returns-then-outside
 unfolding compare_tests number report_of
 returns-then-outside c =
-    report_refused (asked (goal.at.returns-then-outside c).Start) c.args.first.0 c.args.second.0 (refused_here (past_1 (goal.at.returns-then-outside c).Else-not-moment) c.if-outside.true)
+    let t : Traversal = asked (goal.at.returns-then-outside c).Start in
+    report_refused t c.args.first.0 c.args.second.0
+    (refused_here (past_1 t c.requires c.survey-moment.ensures (search rules) c.args.first.0 c.args.second.0) (search rules))
 
 pub returns-then-out_of_service : goal.returns-then-out_of_service
 unfolding compare_tests number report_of
 returns-then-out_of_service c =
-    report_refused (asked (goal.at.returns-then-out_of_service c).Start) c.args.first.0 c.args.second.0 (refused_here (past_2 (goal.at.returns-then-out_of_service c).Else-outside) (either_barred (goal.at.returns-then-out_of_service c).Else-outside ∙ c.if-out_of_service.true))
+    let t : Traversal = asked (goal.at.returns-then-out_of_service c).Start in
+    report_refused t c.args.first.0 c.args.second.0
+    (refused_here (past_2 t c.requires c.survey-moment.ensures (search rules) c.args.first.0 c.args.second.0 (search rules))
+    (either c.contains.ensures c.contains-2.ensures (search rules)))
 
 pub returns-then-taken : goal.returns-then-taken
 unfolding compare_tests number report_of
 returns-then-taken c =
-    report_refused (asked (goal.at.returns-then-taken c).Start) c.args.first.0 c.args.second.0 (refused_here (past_3 (goal.at.returns-then-taken c).Else-out_of_service) (either_placed (goal.at.returns-then-taken c).Else-out_of_service ∙ c.if-taken.true))
+    let a = c.args in
+    let t : Traversal = asked (goal.at.returns-then-taken c).Start in
+    let within : (leb a.n a.first.0 || leb a.n a.second.0) ≡ false = search rules in
+    let in_service : (member a.barred a.first.0 || member a.barred a.second.0) ≡ false = either c.contains.ensures c.contains-2.ensures (search rules) in
+    report_refused t a.first.0 a.second.0
+    (refused_here (past_3 t c.requires c.survey-moment.ensures (search rules) a.first.0 a.second.0 within in_service)
+    (either_placed t c.requires c.survey-moment.ensures (search rules) a.first.0 a.second.0 within in_service c.contains-3.ensures c.contains-4.ensures
+    ∙ search rules))
 
 -- ---- what is compared
 
--- both are unplaced
-unplaced : (c : Else-taken)
-    → let free = c.survey-moment.result.free in
-    let a = c.args in
-    T (member free a.first.0) × T (member free a.second.0)
-unplaced c =
-    let free = c.survey-moment.result.free in
-    let a = c.args in
-    let both = or_false (not c.contains-3.result) (not c.contains-4.result) c.if-taken.false in
-    (said_true (member free a.first.0) c.contains-3.ensures (not_false _ both.0), said_true (member free a.second.0) c.contains-4.ensures (not_false _ both.1))
-
 pub profile_of-c-requires : goal.profile_of-c-requires
-profile_of-c-requires c = (below_64 (goal.at.profile_of-c-requires c).Else-outside).0
+profile_of-c-requires c =
+    (below_64 (asked (goal.at.profile_of-c-requires c).Start) c.requires c.survey-moment.ensures (search rules) c.args.first.0 c.args.second.0 (search rules)).0
 
 pub profile_of-b-requires : goal.profile_of-b-requires
-profile_of-b-requires c = (below_64 (goal.at.profile_of-b-requires c).Else-outside).1
+profile_of-b-requires c =
+    (below_64 (asked (goal.at.profile_of-b-requires c).Start) c.requires c.survey-moment.ensures (search rules) c.args.first.0 c.args.second.0 (search rules)).1
 
 -- what was looked at of the two are the profiles of their labels
 first_made : (c : After-profile_of-c)
@@ -163,14 +153,16 @@ first_made : (c : After-profile_of-c)
     c.profile_of-c.result ≡ profile_of (search_of a.kind.0) (get_or c.survey-moment.result.labels a.first.0 0)
 first_made c =
     let a = c.args in
-    profile_kept (search_of a.kind.0) (weighed (goal.at.After-profile_of-c c).Else-not-moment) a.first.0 c.profile_of-c.ensures
+    profile_kept (search_of a.kind.0) (weighed (asked (goal.at.After-profile_of-c c).Start) c.requires c.survey-moment.ensures (search rules)) a.first.0
+    c.profile_of-c.ensures
 
 second_made : (c : After-profile_of-b)
     → let a = c.args in
     c.profile_of-b.result ≡ profile_of (search_of a.kind.0) (get_or c.survey-moment.result.labels a.second.0 0)
 second_made c =
     let a = c.args in
-    profile_kept (search_of a.kind.0) (weighed (goal.at.After-profile_of-b c).Else-not-moment) a.second.0 c.profile_of-b.ensures
+    profile_kept (search_of a.kind.0) (weighed (asked (goal.at.After-profile_of-b c).Start) c.requires c.survey-moment.ensures (search rules)) a.second.0
+    c.profile_of-b.ensures
 
 pub compare-requires : goal.compare-requires
 compare-requires c =
@@ -180,15 +172,20 @@ compare-requires c =
     (profile_own k (get_or labels a.first.0 0) (first_made (goal.at.compare-requires c).After-profile_of-c), profile_own k (get_or labels a.second.0 0) (second_made c))
 
 pub returns : goal.returns
-unfolding compare_tests report_of plan walk
+unfolding compare_tests report_of
 returns c =
     let a = c.args in
+    let t : Traversal = asked (goal.at.returns c).Start in
     let moment = c.survey-moment in
     let labels = moment.result.labels in
     let k = search_of a.kind.0 in
-    let words = surveyed_words (asked (goal.at.returns c).Start) c.requires.0 c.requires.1 moment.ensures (sound (goal.at.returns c).Else-not-moment) in
+    let free : (not c.contains-3.result || not c.contains-4.result) ≡ false = search rules in
+    let both = unplaced moment.result.free a.first.0 a.second.0 c.contains-3.ensures c.contains-4.ensures free in
     ap told
     (c.compare.ensures
     ∙ ap₂ (λ (x y : ℕ). compared_in k x y) (label_of k (get_or labels a.first.0 0) (first_made (goal.at.returns c).After-profile_of-c)) (label_of k (get_or labels a.second.0 0) (second_made (goal.at.returns c).After-profile_of-b))
-    ∙ compared_stance (asked (goal.at.returns c).Start) c.requires.0 c.requires.1 (formed (goal.at.returns c).Else-not-moment) words.0 words.1 a.first.0 a.second.0 (unplaced (goal.at.returns c).Else-taken).0 (unplaced (goal.at.returns c).Else-taken).1)
-    ∙ report_told (asked (goal.at.returns c).Start) a.first.0 a.second.0 (accepted_here (past_4 (goal.at.returns c).Else-taken))
+    ∙ stands t c.requires moment.ensures (search rules) a.first.0 a.second.0 both.0 both.1)
+    ∙ report_told t a.first.0 a.second.0
+    (accepted_here
+    (past_4 t c.requires moment.ensures (search rules) a.first.0 a.second.0 (search rules) (either c.contains.ensures c.contains-2.ensures (search rules))
+    c.contains-3.ensures c.contains-4.ensures free))
