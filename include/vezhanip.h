@@ -46,9 +46,10 @@
  * may run at the same time, in threads and in interrupt handlers, as long as
  * none of them is given a list that another one is writing.
  * No recursion, no heap. Stack: 3,544 bytes for judge, 3,656 for carry-on,
- * without the frames of the caller and of memset and memcpy.
+ * without the frames of the caller and of memset and memcpy, as measured with
+ * the older kit (rattle-kit-5b), and not again since.
  * The archive libfirmware.a is for x86-64 Linux (ELF, System V ABI). It needs
- * memset and memcpy, and nothing else.
+ * memset, and nothing else.
  */
 #ifndef VEZHANIP_H
 #define VEZHANIP_H
