@@ -4,7 +4,7 @@ use mathlib.Core.Path.{◌≡◌, sym, ap, ◌∙◌, subst}
 use mathlib.Core.Bool.{Bool, true, cond}
 use mathlib.Core.List.{◌++◌}
 use mathlib.Core.Option.{Option, none, some}
-use Prim.Native.Nat.{ℕ, ◌-◌}
+use Prim.Native.Nat.{ℕ, ◌-◌, ◌≤◌}
 use native.Mathlib.Omega.{arith}
 use lib.ListN.{length, drop, length-take, length-drop}
 use Rattle.bitset.specs.Below.{count_below}
@@ -27,7 +27,7 @@ returns-then-replayed-k c =
     let k = search_of a.kind.0 in
     let r = c.replay-replayed in
     let e = stopped_fails a.rows.now a.barred a.output.now a.k c.requires.start k r.result.count r.ensures.count r.new.labels
-    r.result.stage.free c.if-replayed-k.true r.ensures.labels r.ensures.free
+    r.result.stage.free (omega arith) r.ensures.labels r.ensures.free
     in record {
       answer = sym (ap (λ (x : Bool). cond {A = Option ℕ} x none (some 12)) e);
       output = sym (ap (λ (x : Bool). cond x (carry_on_without k (arcs a.rows.now) (length a.rows.now) (unbarred a.barred) a.tie_break.now a.output.now a.k ++ drop (count_below (length a.rows.now) (unbarred a.barred)) a.output.now) a.output.now) e);
@@ -43,7 +43,7 @@ fill-requires c =
       transpose = c.requires.start.transpose;
       names = c.requires.names;
       along =
-          along_ended a.rows.now a.barred a.output.now a.k c.requires.start (search_of a.kind.0) r.result.count r.ensures.count c.if-replayed-k.false
+          along_ended a.rows.now a.barred a.output.now a.k c.requires.start (search_of a.kind.0) r.result.count r.ensures.count (omega arith)
           r.ensures.labels r.ensures.smallest r.ensures.largest r.ensures.set r.ensures.free;
       room =
           omega (
@@ -53,11 +53,11 @@ fill-requires c =
             length-drop a.k a.output.now,
             count_le (length a.rows.now) (unbarred a.barred),
             left_ended a.rows.now a.barred a.output.now a.k c.requires.start (search_of a.kind.0) r.result.count r.ensures.count
-                c.if-replayed-k.false r.ensures.free,
+                (omega arith) r.ensures.free,
           );
       staged =
           subst (Staged (search_of a.kind.0) r.new.labels r.new.weights r.result.stage)
-          (whole_ended a.rows.now a.barred a.output.now a.k c.requires.start (search_of a.kind.0) r.result.count r.ensures.count c.if-replayed-k.false)
+          (whole_ended a.rows.now a.barred a.output.now a.k c.requires.start (search_of a.kind.0) r.result.count r.ensures.count (omega arith))
           r.ensures.staged;
     }
 
@@ -67,7 +67,7 @@ returns c =
     let a = c.args in
     let k = search_of a.kind.0 in
     let r = c.replay-replayed in
-    let ended = c.if-replayed-k.false in
+    let ended : a.k ≤ r.result.count = omega arith in
     let p = ended_passes a.rows.now a.barred a.output.now a.k c.requires.start k r.result.count r.ensures.count ended in
     let e : is_pass (judge_without k (arcs a.rows.now) (length a.rows.now) (unbarred a.barred) a.output.now a.k) ≡ true = ap is_pass p in record {
       answer = sym (ap (λ (x : Bool). cond {A = Option ℕ} x none (some 12)) e);

@@ -5,6 +5,7 @@ use mathlib.Core.Bool.{Bool, cond}
 use borrow.Author.Tests.{lt-ltb, le-ltb}
 use lib.ListN.{length}
 use lib.Seq.{sets}
+use native.Mathlib.Omega.{arith}
 use Rattle.judgement.specs.Judged.{judgement, judgement_in, judgement_length}
 use Rattle.judgement.proofs.judge.Goals as goal
 
@@ -14,8 +15,8 @@ returns-then-output-lt147 c =
     let a = c.args in
     let b = a.sheet.now in
     let out = a.output.now in record {
-      output = sym (ap (λ (x : Bool). cond x out (sets out 0 (judgement b))) (lt-ltb (length out) 147 c.if-output-lt147.true));
-      length = sym (ap (λ (x : Bool). cond x 0 (length (judgement b))) (lt-ltb (length out) 147 c.if-output-lt147.true));
+      output = sym (ap (λ (x : Bool). cond x out (sets out 0 (judgement b))) (lt-ltb (length out) 147 (omega arith)));
+      length = sym (ap (λ (x : Bool). cond x 0 (length (judgement b))) (lt-ltb (length out) 147 (omega arith)));
     }
 
 pub returns : goal.returns
@@ -24,6 +25,6 @@ returns c =
     let a = c.args in
     let b = a.sheet.now in
     let out = a.output.now in record {
-      output = c.write_judgement-judged.ensures.output ∙ sym (ap (λ (x : Bool). cond x out (sets out 0 (judgement b))) (le-ltb (length out) 147 c.if-output-lt147.false));
-      length = c.write_judgement-judged.ensures.length ∙ sym (ap (λ (x : Bool). cond x 0 (length (judgement b))) (le-ltb (length out) 147 c.if-output-lt147.false));
+      output = c.write_judgement-judged.ensures.output ∙ sym (ap (λ (x : Bool). cond x out (sets out 0 (judgement b))) (le-ltb (length out) 147 (omega arith)));
+      length = c.write_judgement-judged.ensures.length ∙ sym (ap (λ (x : Bool). cond x 0 (length (judgement b))) (le-ltb (length out) 147 (omega arith)));
     }

@@ -10,7 +10,7 @@ use Rattle.wording.proofs.write.put_number.Goals as goal
 pub returns-then-x-lt10 : goal.returns-then-x-lt10
 returns-then-x-lt10 c =
     let a = c.args in
-    let whole = number_one a.output.now a.at a.vertex.0 (omega (arith, c.if-x-lt10.true)) c.ones_of.ensures in
+    let whole = number_one a.output.now a.at a.vertex.0 (omega arith) c.ones_of.ensures in
     record { output = whole.0; end = whole.1 }
 
 pub bounds-output-at-then-x-lt100-2 : goal.bounds-output-at-then-x-lt100-2
@@ -19,7 +19,7 @@ bounds-output-at-then-x-lt100-2 c = lt-length-set c.args.output.now _ _ (omega (
 pub returns-then-x-lt100 : goal.returns-then-x-lt100
 returns-then-x-lt100 c =
     let a = c.args in
-    let whole = number_two a.output.now a.at a.vertex.0 (omega (arith, c.if-x-lt10.false)) (omega (arith, c.if-x-lt100.true)) c.ones_of-then-x-lt100.ensures c.ones_of-then-x-lt100-2.ensures in
+    let whole = number_two a.output.now a.at a.vertex.0 (omega arith) (omega arith) c.ones_of-then-x-lt100.ensures c.ones_of-then-x-lt100-2.ensures in
     record { output = whole.0; end = whole.1 }
 
 pub bounds-output-at-3 : goal.bounds-output-at-3
@@ -33,6 +33,6 @@ bounds-output-at-4 c =
 pub returns : goal.returns
 returns c =
     let a = c.args in
-    let whole = number_three a.output.now a.at a.vertex.0 (omega (arith, c.if-x-lt100.false)) (search rules) c.ones_of-2.ensures
+    let whole = number_three a.output.now a.at a.vertex.0 (omega arith) (search rules) c.ones_of-2.ensures
     c.ones_of-3.ensures c.ones_of-4.ensures in
     record { output = whole.0; end = whole.1 }
