@@ -3,32 +3,46 @@
 --   size_suc                        there is one offset more than there are vertices
 --   offsets_rise, offset_upto, offset_inside, offset_vertex   offsets do not fall, each is a position of the neighbour list or its end, and there are no others
 --   neighbours_rise, neighbours_ascend   the neighbours of a vertex are strictly ascending
+--   part_length, part_at, part_any   a part of a list, and whether a number stands in it
 --   Stands, stands_out, stands_at   where a number stands in a list
 --   arc_from, arc_to                an arc leads from a vertex to a vertex
 --   arcs_listed_lem, arcs_same          the rows of a layout have its arcs;   rows_length   as many rows as vertices
---   Unmet, unmet_start, unmet_next, met_here, unmet_end   a number looked for in a part of a list
---   Sorted, sorted_start, sorted_next, unsorted_here, sorted_end   a part of a list, looked through for a number that is at most the one before it
+--   fall_told, unsorted_told         what is said of offsets, and of a part of a list, by each number and the next one
 --   gather_start, gather_next, gather_end   a row, put together neighbour by neighbour
+--   own_end, own_inside, own_at, own_any   the list of a vertex, as a part of the neighbour list
 -- Assumes nothing.
 use Prim.Native.Nat.{ℕ, zero, suc, ◌+◌, ◌-◌, ◌≤◌, ◌<◌, ◌^◌}
 use mathlib.Core.Path.{◌≡◌, sym, ap, ap₂, ◌∙◌, subst, fun_ext}
 use mathlib.Core.Bool.{Bool, true, false, not, ◌&&◌, ◌||◌}
 use mathlib.Core.List.{List}
-use mathlib.Core.Logic.{◌⊎◌, inl, inr, ⊎_elim}
+use mathlib.Core.Logic.{◌⊎◌, inl, inr}
 use native.Mathlib.Omega.{arith}
 use native.Mathlib.Numerals.{add-one}
 use lib.Dec.{T, ltb, leb, eqb, lt→ltb, ltb→lt, le→leb, leb→le, eqb→eq, eqb_refl, not_T}
-use lib.ListN.{length, get_or, get_or-eq_default}
+use lib.ListN.{length, get_or, drop, length-drop, get_or-eq_default}
+use lib.Seq.{length-take-le, get_or-take, get_or-drop}
+use Rattle.std.specs.Prelude.{slice_range}
+use Rattle.std.specs.List.{list_any, IsAllAdjacentAnswer}
 use Rattle.bitset.specs.Below.{any_below}
 use Rattle.bitset.specs.Word.{member, inserted}
-use Rattle.bitset.proofs.Tests.{and_in, and_out, not_not, same_test, is_true, is_false, below_or, below_suc}
+use Rattle.bitset.proofs.Tests.{and_in, and_out, not_not, same_test, is_true, is_false, below_or}
 use Rattle.bitset.proofs.Below.{any_out, any_at}
+use Rattle.bitset.proofs.Chains.{items_any}
 use Rattle.bitset.proofs.Word.{member_zero, member_inserted, inserted_word, equal_members}
 use Rattle.searches.specs.Ordering.{arcs, at}
 use Rattle.searches.specs.Answer.{Accepts}
 use Rattle.searches.proofs.Refusals.{vertex_outside_in}
 use Rattle.adjacency.specs.Layout.{size_of, stands_in, arcs_listed, falls_at, unsorted_in, unsorted_at, form_tests, rows_listed, IsCover, IsLayout}
 use Rattle.adjacency.proofs.Rows.{rows_of_length, rows_of_words, arcs_rows_of}
+
+-- ---- a part of a list, from `begin` up to `end`
+
+module _ (list : List ℕ) {begin end : ℕ} (rises : begin ≤ end) (inside : end ≤ length list) where
+  pub part_length : length (slice_range list begin end) ≡ end - begin
+  part_length = length-take-le (end - begin) (drop begin list) (omega (arith, length-drop begin list))
+
+  pub part_at : (i : ℕ) → i < end - begin → at (slice_range list begin end) i ≡ at list (begin + i)
+  part_at i l = get_or-take (end - begin) (drop begin list) i 0 l ∙ get_or-drop begin list i 0
 
 -- ---- where a number stands in a list
 
@@ -54,54 +68,84 @@ stands_at list begin end v x =
     any_at end (λ e. leb begin e && eqb (at list e) v) x.position x.before
     (and_in (leb begin x.position) (eqb (at list x.position) v) (le→leb begin x.position x.begun) (same_eqb x.names))
 
--- no position from `begin` up to e has the number
-pub record Unmet (list : List ℕ) (begin v e : ℕ) : Type 0 where
-  pub begun : begin ≤ e
-  pub none : (d : ℕ) → begin ≤ d → d < e → at list d ≡ v → ⊥
+-- ---- whether a number stands in a part of a list
 
-pub unmet_start : (list : List ℕ) (begin v : ℕ) → Unmet list begin v begin
-unmet_start list begin v = record { begun = omega arith; none = λ d l h. absurd (omega arith) }
+module _ (list : List ℕ) {begin end : ℕ} (rises : begin ≤ end) (inside : end ≤ length list) (v : ℕ) where
+  part_stands : any_below (end - begin) (λ i. eqb (at list (begin + i)) v) ≡ stands_in list begin end v
+  part_stands =
+      same_test (any_below (end - begin) (λ i. eqb (at list (begin + i)) v)) (stands_in list begin end v)
+      (λ t.
+      let s = any_out (end - begin) (λ i. eqb (at list (begin + i)) v) t in
+      stands_at list begin end v (record { position = begin + s.at; begun = omega arith; before = omega (arith, s.below); names = eqb→eq (at list (begin + s.at)) v s.holds }))
+      (λ t.
+      let s = stands_out list begin end v t in
+      let here : begin + (s.position - begin) ≡ s.position = omega (arith, s.begun) in
+      any_at (end - begin) (λ i. eqb (at list (begin + i)) v) (s.position - begin) (omega (arith, s.begun, s.before))
+      (same_eqb (ap (λ (e : ℕ). at list e) here ∙ s.names)))
 
-pub unmet_next : {list : List ℕ} {begin v e : ℕ} → Unmet list begin v e → (at list e ≡ v → ⊥) → Unmet list begin v (e + 1)
-unmet_next {list} {begin} {v} {e} x other =
-    subst (λ (m : ℕ). Unmet list begin v m) (sym (add-one e))
-    (record { begun = omega (arith, x.begun); none = λ d l h. ⊎_elim (x.none d l) (λ same names. other (ap (λ (y : ℕ). at list y) (sym same) ∙ names)) (below_suc e d h) })
+  pub part_any : list_any (λ x. eqb x v) (slice_range list begin end) ≡ stands_in list begin end v
+  part_any =
+      items_any (λ x. eqb x v) 0 (slice_range list begin end) (λ i. eqb (at list (begin + i)) v)
+      (λ i l. ap (λ (x : ℕ). eqb x v) (part_at list rises inside i (omega (arith, part_length list rises inside))))
+      ∙ ap (λ (n : ℕ). any_below n (λ i. eqb (at list (begin + i)) v)) (part_length list rises inside) ∙ part_stands
 
-pub met_here : {list : List ℕ} {begin end v e : ℕ} → Unmet list begin v e → e < end → at list e ≡ v → true ≡ stands_in list begin end v
-met_here {list} {begin} {end} {v} {e} x l names = sym (is_true (stands_in list begin end v) (stands_at list begin end v (record { position = e; begun = x.begun; before = l; names = names })))
+-- ---- whether a list is in order, asked of each number and the next one
 
-pub unmet_end : {list : List ℕ} {begin end v e : ℕ} → Unmet list begin v e → end ≤ e → false ≡ stands_in list begin end v
-unmet_end {list} {begin} {end} {v} {e} x l =
-    sym (is_false (stands_in list begin end v) (λ t. let s = stands_out list begin end v t in x.none s.position s.begun (omega (arith, s.before)) s.names))
+greater : (a b : ℕ) → false ≡ leb a b → b < a
+greater a b e = go (below_or b a)
+  where
+    go : (b < a) ⊎ (a ≤ b) → b < a
+    go (inl h) = h
+    go (inr h) = absurd (subst (λ (x : Bool). T x) (sym e) (le→leb a b h))
 
--- from `begin` up to e no number is at most the one before it
-pub record Sorted (list : List ℕ) (begin e : ℕ) : Type 0 where
-  pub begun : begin < e
-  pub none : (d : ℕ) → begin < d → d < e → T (leb (at list d) (at list (d - 1))) → ⊥
+at_most : (a b : ℕ) → false ≡ ltb a b → b ≤ a
+at_most a b e = go (below_or a b)
+  where
+    go : (a < b) ⊎ (b ≤ a) → b ≤ a
+    go (inl h) = absurd (subst (λ (x : Bool). T x) (sym e) (lt→ltb a b h))
+    go (inr h) = h
 
-pub sorted_start : (list : List ℕ) (begin : ℕ) → Sorted list begin (begin + 1)
-sorted_start list begin = record { begun = omega arith; none = λ d l h. absurd (omega arith) }
+pub fall_told : (offsets : List ℕ) (r : Bool) → IsAllAdjacentAnswer (λ x y b. b ≡ leb x y) offsets r → not r ≡ any_below (size_of offsets) (falls_at offsets)
+unfolding size_of falls_at
+fall_told offsets true each =
+    sym (is_false (any_below (length offsets - 1) (falls_at offsets)) (λ t.
+    let s = any_out (length offsets - 1) (falls_at offsets) t in
+    let less : at offsets (suc s.at) < at offsets s.at = ltb→lt _ _ s.holds in
+    let more : at offsets s.at ≤ at offsets (s.at + 1) = leb→le _ _ (subst (λ (b : Bool). T b) (each s.at 0 (omega (arith, s.below))) tt) in
+    omega (arith, ap (λ (u : ℕ). at offsets u) (add-one s.at))))
+fall_told offsets false some =
+    let k : ℕ = some.0 in
+    let less : at offsets (k + 1) < at offsets k = greater _ _ (some.2 0) in
+    sym (is_true (any_below (length offsets - 1) (falls_at offsets)) (any_at (length offsets - 1) (falls_at offsets) k (omega (arith, some.1))
+    (lt→ltb (at offsets (suc k)) (at offsets k) (omega (arith, ap (λ (u : ℕ). at offsets u) (add-one k))))))
 
-pub sorted_next : {list : List ℕ} {begin e : ℕ} → Sorted list begin e → leb (at list e) (at list (e - 1)) ≡ false → Sorted list begin (e + 1)
-sorted_next {list} {begin} {e} x more =
-    subst (λ (m : ℕ). Sorted list begin m) (sym (add-one e)) (record {
-      begun = omega (arith, x.begun);
-      none = λ d l h. ⊎_elim (x.none d l) (λ same t. subst (λ (b : Bool). T b) more (subst (λ (y : ℕ). T (leb (at list y) (at list (y - 1)))) same t)) (below_suc e d h);
-    })
+module _ (list : List ℕ) {begin end : ℕ} (rises : begin ≤ end) (inside : end ≤ length list) where
+  abbrev part : List ℕ
+  part = slice_range list begin end
 
-pub unsorted_here : {list : List ℕ} {begin end e : ℕ} → Sorted list begin e → e < end → leb (at list e) (at list (e - 1)) ≡ true → true ≡ unsorted_in list begin end
-unfolding unsorted_in
-unsorted_here {list} {begin} {end} {e} x l less =
-    sym (is_true (unsorted_in list begin end) (any_at end (λ d. ltb begin d && leb (at list d) (at list (d - 1))) e l
-    (and_in (ltb begin e) (leb (at list e) (at list (e - 1))) (lt→ltb begin e x.begun) (subst (λ (b : Bool). T b) (sym less) tt))))
-
-pub sorted_end : {list : List ℕ} {begin end e : ℕ} → Sorted list begin e → end ≤ e → false ≡ unsorted_in list begin end
-unfolding unsorted_in
-sorted_end {list} {begin} {end} {e} x l =
-    sym (is_false (unsorted_in list begin end) (λ t.
-    let y = any_out end (λ d. ltb begin d && leb (at list d) (at list (d - 1))) t in
-    let both = and_out (ltb begin y.at) (leb (at list y.at) (at list (y.at - 1))) y.holds in
-    x.none y.at (ltb→lt begin y.at both.0) (omega (arith, y.below)) both.1))
+  pub unsorted_told : (r : Bool) → IsAllAdjacentAnswer (λ x y b. b ≡ ltb x y) (slice_range list begin end) r → not r ≡ unsorted_in list begin end
+  unfolding unsorted_in
+  unsorted_told true each =
+      sym (is_false (unsorted_in list begin end) (λ t.
+      let s = any_out end (λ e. ltb begin e && leb (at list e) (at list (e - 1))) t in
+      let both = and_out (ltb begin s.at) (leb (at list s.at) (at list (s.at - 1))) s.holds in
+      let up : begin < s.at = ltb→lt begin s.at both.0 in
+      let k : ℕ = s.at - 1 - begin in
+      let most : at list s.at ≤ at list (s.at - 1) = leb→le _ _ both.1 in
+      let less : at part k < at part (k + 1) = ltb→lt _ _ (subst (λ (b : Bool). T b) (each k 0 (omega (arith, part_length list rises inside, s.below))) tt) in
+      let before : begin + k ≡ s.at - 1 = omega arith in
+      let here : begin + (k + 1) ≡ s.at = omega arith in
+      omega (arith, part_at list rises inside k (omega (arith, s.below)), part_at list rises inside (k + 1) (omega (arith, s.below)), ap (λ (e : ℕ). at list e) before, ap (λ (e : ℕ). at list e) here)))
+  unsorted_told false some =
+      let k : ℕ = some.0 in
+      let last : k + 1 < end - begin = omega (arith, some.1, part_length list rises inside) in
+      let less : at part (k + 1) ≤ at part k = at_most _ _ (some.2 0) in
+      let before : begin + (k + 1) - 1 ≡ begin + k = omega arith in
+      let most : at list (begin + (k + 1)) ≤ at list (begin + (k + 1) - 1) =
+      omega (arith, part_at list rises inside k (omega arith), part_at list rises inside (k + 1) last, ap (λ (e : ℕ). at list e) before)
+      in
+      sym (is_true (unsorted_in list begin end) (any_at end (λ e. ltb begin e && leb (at list e) (at list (e - 1))) (begin + (k + 1)) (omega arith)
+      (and_in (ltb begin (begin + (k + 1))) (leb (at list (begin + (k + 1))) (at list (begin + (k + 1) - 1))) (lt→ltb begin (begin + (k + 1)) (omega arith)) (le→leb _ _ most))))
 
 -- ---- what the tests say
 
@@ -264,3 +308,25 @@ pub gather_end : {offsets neighbours : List ℕ} (x : IsLayout offsets neighbour
 unfolding arcs arcs_listed rows_listed
 gather_end {offsets} {neighbours} x {u} l {row} g =
     equal_members 64 g.word (rows_of_words (size_of offsets) (arcs_listed offsets neighbours) u) (λ v _. g.members v ∙ sym (arcs_listed_lem x u v))
+
+-- ---- the list of a vertex, a part of the neighbour list
+
+module _ {offsets neighbours : List ℕ} (x : IsLayout offsets neighbours) {u : ℕ} (vertex : u < size_of offsets) {list : List ℕ}
+    (own : list ≡ slice_range neighbours (at offsets u) (at offsets (suc u))) where
+  within : at offsets (suc u) ≤ length neighbours
+  within = offset_inside x.cover (suc u) vertex
+
+  -- it ends where the next one begins
+  pub own_end : at offsets u + length list ≡ at offsets (suc u)
+  own_end = omega (arith, ap length own, part_length neighbours (x.cover.rises u vertex) within, x.cover.rises u vertex)
+
+  pub own_inside : (i : ℕ) → i < length list → at offsets u + i < length neighbours
+  own_inside i l = omega (arith, own_end, within)
+
+  pub own_at : (i : ℕ) → i < length list → at list i ≡ at neighbours (at offsets u + i)
+  own_at i l = ap (λ (y : List ℕ). at y i) own ∙ part_at neighbours (x.cover.rises u vertex) within i (omega (arith, own_end))
+
+  -- the vertices that stand in it are those that u leads to
+  pub own_any : (v : ℕ) → list_any (λ y. eqb y v) list ≡ arcs_listed offsets neighbours u v
+  unfolding arcs_listed
+  own_any v = ap (list_any (λ y. eqb y v)) own ∙ part_any neighbours (x.cover.rises u vertex) within v

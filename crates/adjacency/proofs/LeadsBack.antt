@@ -1,42 +1,26 @@
 -- The test that every arc has an arc back, in one pass over the neighbour list.
---   Begun, begun_start, begun_next   the offsets are copied to what is due, one after the other
---   due_start                 at the start nothing was looked at
+--   due_start, due_copied     at the start, where what is due begins with the offsets, nothing was looked at
 --   due_next                  the vertex that is due is the one whose list is looked at: its arc has an arc back
 --   due_missed                it is not: some arc has none
 --   due_end                   all was looked at: every arc has an arc back
 -- Assumes nothing.
-use Prim.Native.Nat.{ℕ, suc, ◌+◌, ◌≤◌, ◌<◌}
+use Prim.Native.Nat.{ℕ, suc, ◌+◌, ◌-◌, ◌≤◌, ◌<◌}
 use mathlib.Core.Path.{◌≡◌, refl, sym, ap, ◌∙◌, subst}
 use mathlib.Core.Bool.{Bool, true, false, not, ◌&&◌}
-use mathlib.Core.List.{List}
+use mathlib.Core.List.{List, ◌++◌}
 use mathlib.Core.Logic.{◌⊎◌, inl, inr, ⊎_elim}
 use native.Mathlib.Omega.{arith}
 use native.Mathlib.Numerals.{add-one}
 use lib.Dec.{T, eqb, eqb→eq, eqb_refl, not_T}
-use lib.ListN.{length, set, replicate, length-set, length-replicate}
-use lib.Seq.{get_or-set_same, get_or-set_other}
+use lib.ListN.{length, set, take, length-set, length-append, get_or-append}
+use lib.Seq.{length-take-le, get_or-take, get_or-set_same, get_or-set_other}
 use Rattle.bitset.specs.Below.{any_below}
 use Rattle.bitset.proofs.Tests.{and_in, and_out, decided, below_suc, three_ways}
 use Rattle.bitset.proofs.Below.{any_out, any_at}
 use Rattle.searches.specs.Ordering.{at}
 use Rattle.adjacency.specs.Layout.{size_of, arcs_listed, one_way_in, IsLayout}
 use Rattle.adjacency.specs.LeadsBack.{Looked, Met, Due}
-use Rattle.adjacency.proofs.Layouts.{Stands, stands_out, stands_at, offset_inside, offset_upto, offset_vertex, neighbours_ascend, arc_to}
-
-pub record Begun (offsets due : List ℕ) (v : ℕ) : Type 0 where
-  pub full : length due ≡ 64
-  pub same : (y : ℕ) → y < v → at due y ≡ at offsets y
-
-pub begun_start : (offsets : List ℕ) → Begun offsets (replicate 64 0) 0
-begun_start offsets = record { full = length-replicate {A = ℕ} 64 0; same = λ y l. absurd (omega arith) }
-
-pub begun_next : {offsets due : List ℕ} {v : ℕ} → Begun offsets due v → v < 64 → Begun offsets (set due v (at offsets v)) (v + 1)
-begun_next {offsets} {due} {v} b l =
-    subst (λ (m : ℕ). Begun offsets (set due v (at offsets v)) m) (sym (add-one v)) (record {
-      full = length-set due v (at offsets v) ∙ b.full;
-      same = λ y h. ⊎_elim (λ less. get_or-set_other due v y (at offsets v) 0 (λ same. omega (arith, same)) ∙ b.same y less)
-          (λ same. subst (λ (z : ℕ). at (set due v (at offsets v)) z ≡ at offsets z) (sym same) (get_or-set_same due v (at offsets v) 0 (omega (arith, b.full)))) (below_suc v y h);
-    })
+use Rattle.adjacency.proofs.Layouts.{Stands, stands_out, stands_at, size_suc, offset_inside, offset_upto, offset_vertex, neighbours_ascend, arc_to}
 
 module _ {offsets neighbours : List ℕ} (x : IsLayout offsets neighbours) where
   abbrev n : ℕ
@@ -53,6 +37,14 @@ module _ {offsets neighbours : List ℕ} (x : IsLayout offsets neighbours) where
     looked = λ y v l m. let e = same v l in absurd (omega (arith, m.begun, m.before));
     met = λ y v l m. absurd (omega (arith, m.before, x.cover.starts));
   }
+
+  -- the offsets of the vertices, copied to the front of what is due
+  pub due_copied : (copied rest : List ℕ) → copied ≡ take n offsets → length rest ≡ 64 - n → Due offsets neighbours (copied ++ rest) (at offsets 0)
+  due_copied copied rest same room =
+      let upto : n ≤ length offsets = omega (arith, size_suc x.cover) in
+      let long : length copied ≡ n = ap (λ (l : List ℕ). length l) same ∙ length-take-le n offsets upto in
+      due_start (length-append copied rest ∙ omega (arith, x.few, size_suc x.cover)) (λ v l.
+      get_or-append copied rest 0 v (omega arith) ∙ ap (λ (c : List ℕ). at c v) same ∙ get_or-take n offsets v 0 l)
 
   arc_at : (u e : ℕ) → at offsets u ≤ e → e < at offsets (suc u) → T (arc u (at neighbours e))
   unfolding arcs_listed

@@ -1,29 +1,36 @@
 // What is refused of a graph that is given as adjacency lists.
-ghost use Rattle.std.specs.Prelude.{◌≡◌};
+ghost use Rattle.std.specs.Prelude.{◌≡◌, IfOk};
 ghost use Rattle.searches.specs.Answer.{first_refusal, refusal_of};
 ghost use Rattle.adjacency.specs.Layout.{listed_tests};
 
-use searches::{Mark, Outcome, Refusal};
+use crate::Layout;
+use searches::{Mark, Refusal};
 
-// The first of refusals 2, 26, 4 and 5, in this order, that applies to the lists, else `Done`; 5 for two-way graphs only. It alters no list.
-pub fn layout_refusal(mark: Mark, offsets: &[u16], neighbours: &[u8]) -> Outcome
-    ensures { refusal_of result ≡ first_refusal (listed_tests mark offsets.now neighbours.now) }
+// The layout that the lists are, or the first of refusals 2, 26, 4 and 5, in this order, that applies to them; 5 for two-way graphs only. It alters no list.
+pub fn layout_refusal<'a>(
+    mark: Mark,
+    offsets: &'a [u16],
+    neighbours: &'a [u8],
+) -> Result<Layout<'a>, Refusal>
+    ensures refusal { refusal_of result ≡ first_refusal (listed_tests mark offsets.now neighbours.now) }
+    ensures lists { IfOk result (λ layout. (layout.offsets.now ≡ offsets.now) × (layout.neighbours.now ≡ neighbours.now)) }
 {
     if 65 < offsets.len() {
-        return Outcome::Refused(Refusal::TooManyVertices);
+        return Err(Refusal::TooManyVertices);
     }
-    let formed = crate::form::form_refusal(offsets, neighbours);
-    if let Outcome::Refused(refusal) = formed {
-        return Outcome::Refused(refusal);
-    }
-    if crate::arcs::self_loop(offsets, neighbours) {
-        return Outcome::Refused(Refusal::SelfLoop);
+    crate::form::form_refusal(offsets, neighbours)?;
+    let layout = Layout {
+        offsets,
+        neighbours,
+    };
+    if layout.self_loop() {
+        return Err(Refusal::SelfLoop);
     }
     if let Mark::OneWay = mark {
-        return Outcome::Done;
+        return Ok(layout);
     }
-    if crate::arcs::one_way(offsets, neighbours) {
-        return Outcome::Refused(Refusal::OneWayArc);
+    if layout.one_way() {
+        return Err(Refusal::OneWayArc);
     }
-    Outcome::Done
+    Ok(layout)
 }

@@ -1,3 +1,4 @@
 pub mod Outside
 pub mod Seen
 pub mod Tried
+pub mod Front

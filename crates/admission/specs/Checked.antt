@@ -2,7 +2,7 @@
 --   outside_in n table u        the row of u has a bit at or above n
 --   one_sided_in table u v       the row of u has v, and the row of v does not have u
 --   IsTable n table            the table has n rows, at most 512
-use Rattle.std.specs.Prelude.{ℕ, ◌+◌, ◌*◌, ◌≤◌, ◌≡◌, Bool, not, ◌&&◌, List, leb, length}
+use Rattle.std.specs.Prelude.{ℕ, ◌*◌, ◌≤◌, ◌≡◌, Bool, not, ◌&&◌, List, leb, length}
 use Rattle.bitset.specs.Below.{any_below}
 use Rattle.searches.specs.Table.{arcs_wide}
 

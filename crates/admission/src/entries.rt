@@ -9,8 +9,8 @@ pub fn vertex_outside(list: &[u16], k: usize, n: usize) -> bool
     requires { k ≤ length list.now }
     ensures { result ≡ vertex_outside n list.now k }
 {
-    for p in 0..k {
-        if n <= list[p] as usize {
+    for entry in &list[..k] {
+        if n <= *entry as usize {
             return true;
         }
     }
@@ -24,8 +24,8 @@ pub fn repeated(list: &[u16], k: usize) -> bool
     ensures { result ≡ answer.repeated list.now k }
 {
     let mut seen = [0u64; 8];
-    for q in 0..k {
-        let vertex = list[q] as usize;
+    for entry in &list[..k] {
+        let vertex = *entry as usize;
         if tables::in_set(&seen, vertex) {
             return true;
         }

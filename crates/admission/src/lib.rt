@@ -9,58 +9,55 @@ ghost use Rattle.std.specs.Prelude.{◌≡◌};
 ghost use Rattle.searches.specs.Answer.{first_refusal, refusal_of};
 ghost use Rattle.searches.specs.Wide.{open_tests_wide, judge_tests_wide, list_tests_wide};
 
-use searches::{Kind, Mark, Outcome, Refusal};
+use searches::{Kind, Mark, Refusal};
 
-// The first of refusals 1 to 5 that applies to `kind` and `table`, else `Done`; 5 for two-way graphs only. It alters neither.
-fn graph_refusal(kind: Kind, mark: Mark, table: &[u64]) -> Outcome
+// The first of refusals 1 to 5 that applies to `kind` and `table`, else `Ok`; 5 for two-way graphs only. It alters neither.
+fn graph_refusal(kind: Kind, mark: Mark, table: &[u64]) -> Result<(), Refusal>
     ensures { refusal_of result ≡ first_refusal (open_tests_wide 8 kind.0 mark table.now) }
 {
     if Kind::MCS.0 < kind.0 {
-        return Outcome::Refused(Refusal::UnknownKind);
+        return Err(Refusal::UnknownKind);
     }
     let length = table.len();
     let n = length / 8;
     if length % 8 != 0 || 512 < n {
-        return Outcome::Refused(Refusal::TooManyVertices);
+        return Err(Refusal::TooManyVertices);
     }
     if rows::bit_outside(table, n) {
-        return Outcome::Refused(Refusal::ArcOutOfRange);
+        return Err(Refusal::ArcOutOfRange);
     }
     if rows::self_loop(table, n) {
-        return Outcome::Refused(Refusal::SelfLoop);
+        return Err(Refusal::SelfLoop);
     }
     if let Mark::OneWay = mark {
-        return Outcome::Done;
+        return Ok(());
     }
     if rows::one_way(table, n) {
-        return Outcome::Refused(Refusal::OneWayArc);
+        return Err(Refusal::OneWayArc);
     }
-    Outcome::Done
+    Ok(())
 }
 
-// The first of refusals 1 to 6, 8 and 9, in this order, that applies to `ordering` on this graph, else `Done`. It alters no list.
-pub fn judge_refusal(kind: Kind, mark: Mark, table: &[u64], ordering: &[u16]) -> Outcome
+// The first of refusals 1 to 6, 8 and 9, in this order, that applies to `ordering` on this graph, else `Ok`. It alters no list.
+pub fn judge_refusal(kind: Kind, mark: Mark, table: &[u64], ordering: &[u16]) -> Result<(), Refusal>
     ensures { refusal_of result ≡ first_refusal (judge_tests_wide 8 kind.0 mark table.now ordering.now) }
 {
-    let checked = graph_refusal(kind, mark, table);
-    if let Outcome::Refused(refusal) = checked {
-        return Outcome::Refused(refusal);
-    }
+    graph_refusal(kind, mark, table)?;
     let n = table.len() / 8;
     let length = ordering.len();
     if n < length {
-        return Outcome::Refused(Refusal::OrderingTooLong);
+        return Err(Refusal::OrderingTooLong);
     }
     if entries::vertex_outside(ordering, length, n) {
-        return Outcome::Refused(Refusal::VertexOutOfRange);
+        return Err(Refusal::VertexOutOfRange);
     }
     if entries::repeated(ordering, length) {
-        return Outcome::Refused(Refusal::RepeatedVertex);
+        return Err(Refusal::RepeatedVertex);
     }
-    Outcome::Done
+    Ok(())
 }
 
-// The first of refusals 1 to 6, 10, 7, 8 and 9, in this order, that applies to carrying on the first `k` entries of `output`, else `Done`. It alters no
+// The first of refusals 1 to 6, 10, 7, 8 and 9, in this order, that applies to carrying on the first `k` entries of `output`, else `Ok`. It alters no
 // list, and any `k` may be given.
 pub fn list_refusal(
     kind: Kind,
@@ -69,28 +66,25 @@ pub fn list_refusal(
     tie_break: &[u16],
     output: &[u16],
     k: usize,
-) -> Outcome
+) -> Result<(), Refusal>
     ensures { refusal_of result ≡ first_refusal (list_tests_wide 8 kind.0 mark table.now tie_break.now output.now k) }
 {
-    let checked = graph_refusal(kind, mark, table);
-    if let Outcome::Refused(refusal) = checked {
-        return Outcome::Refused(refusal);
-    }
+    graph_refusal(kind, mark, table)?;
     let n = table.len() / 8;
     if n < k {
-        return Outcome::Refused(Refusal::OrderingTooLong);
+        return Err(Refusal::OrderingTooLong);
     }
     if output.len() < n {
-        return Outcome::Refused(Refusal::OutputTooShort);
+        return Err(Refusal::OutputTooShort);
     }
     if tie_break.len() != n {
-        return Outcome::Refused(Refusal::TieBreakLength);
+        return Err(Refusal::TieBreakLength);
     }
     if entries::vertex_outside(output, k, n) || entries::vertex_outside(tie_break, n, n) {
-        return Outcome::Refused(Refusal::VertexOutOfRange);
+        return Err(Refusal::VertexOutOfRange);
     }
     if entries::repeated(output, k) || entries::repeated(tie_break, n) {
-        return Outcome::Refused(Refusal::RepeatedVertex);
+        return Err(Refusal::RepeatedVertex);
     }
-    Outcome::Done
+    Ok(())
 }

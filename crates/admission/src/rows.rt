@@ -10,8 +10,7 @@ fn row_outside(table: &[u64], n: usize, u: usize) -> bool
     ensures { result ≡ outside_in n table.now u }
 {
     for i in 0..8 {
-        let below = 64 * i;
-        let from = if below < n { n - below } else { 0 };
+        let from = n.saturating_sub(64 * i);
         if bitset::any_from(table[8 * u + i], from) {
             return true;
         }

@@ -8,7 +8,7 @@ use traversal::Traversal;
 fn compare(traversal: Traversal, first: u8, second: u8) -> Traversal {
     let compared = traversal.compare(Vertex(first), Vertex(second));
     let standing = compared.standing;
-    lines::show_standing(standing);
+    notation::show_standing(standing);
     compared.traversal
 }
 
@@ -36,9 +36,8 @@ fn try_one(traversal: Traversal, point: u8, points: [u8; 10], count: usize) -> T
 // The line of the calls without a point.
 fn offer_and_take_back(traversal: Traversal) -> Traversal {
     let seen = traversal.offered();
-    let outcome = seen.outcome;
     let t = seen.traversal;
-    lines::show_offered(outcome, seen.set);
+    lines::show_offered(seen.set);
     lines::show_stepped(t.take_back());
     t
 }
@@ -73,7 +72,7 @@ pub fn open(kind: u8, mark: Mark, rows: [u64; 64], n: usize, barred: u64) -> Tra
 // With an offered point placed; where all unbarred ones are placed, as it was.
 pub fn grown(traversal: Traversal, random: u64) -> Traversal {
     let seen = traversal.offered();
-    let set = seen.set;
+    let set = seen.set.unwrap_or(0);
     let t = seen.traversal;
     let stepped = t.place(Vertex(plans::chosen(set, random)));
     stepped.traversal

@@ -77,10 +77,10 @@ fn try_all(traversal: Traversal) -> Traversal {
 // A random number for each kind, mark, n, number of links and number of barred points.
 fn seed(kind: u8, mark: Mark, n: usize, links: u8, how_many: u8) -> u64 {
     let digits = (n as u64)
-        ^ (notation::wide(links) << 8)
-        ^ (notation::wide(kind) << 16)
+        ^ (u64::from(links) << 8)
+        ^ (u64::from(kind) << 16)
         ^ (notation::number(mark) << 24)
-        ^ (notation::wide(how_many) << 32);
+        ^ (u64::from(how_many) << 32);
     next(next(next(digits ^ 0x9e3779b97f4a7c15)))
 }
 

@@ -7,6 +7,7 @@ pub mod WordOrder
 pub mod Scan
 pub mod Joining
 pub mod Passed
+pub mod Chains
 pub mod Halves
 pub mod Exchange
 pub mod Rounds

@@ -2,6 +2,7 @@
 --   any_below n f      f holds at some number below n
 --   all_below n f      f holds at every number below n
 --   first_below n f    the least number below n at which f holds, n where there is none
+--   found_below n f    that number as an Option, which holds none where there is none
 --   last_below n f     the greatest number below n at which f holds, 0 where there is none
 --   count_below n f    how many numbers below n there are at which f holds
 --   differ f g p      p is in just one of the two sets
@@ -9,7 +10,7 @@
 --   only f g p        p is in f and not in g
 --   past_last n f      one more than the greatest number below n in f, 0 where there is none
 -- Each search takes the top number first and leaves the rest unread once that decides.
-use Rattle.std.specs.Prelude.{ℕ, zero, suc, Bool, true, false, cond, not, ◌&&◌, ◌||◌, ltb}
+use Rattle.std.specs.Prelude.{ℕ, zero, suc, Bool, true, false, cond, not, ◌&&◌, ◌||◌, ltb, Option, Some, None}
 use Rattle.std.specs.Bool.{beq}
 
 unfoldable pub any_below : ℕ → (ℕ → Bool) → Bool
@@ -26,6 +27,9 @@ first_below (suc n) f =
     let rest = first_below n f in
     let top = cond (f n) n (suc n) in
     cond (ltb rest n) rest top
+
+unfoldable pub found_below : ℕ → (ℕ → Bool) → Option ℕ
+found_below n f = let first = first_below n f in cond (ltb first n) (Some first) None
 
 unfoldable pub last_below : ℕ → (ℕ → Bool) → ℕ
 last_below zero f = zero

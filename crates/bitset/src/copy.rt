@@ -6,7 +6,5 @@ pub fn copy(rows: &[u64], copy: &mut [u64; 64])
     requires { (length rows.now ≤ 64) × (length copy.old ≡ 64) }
     ensures { copy.new ≡ rows.now ++ drop (length rows.now) copy.old }
 {
-    for u in 0..rows.len() {
-        copy[u] = rows[u];
-    }
+    copy[..rows.len()].copy_from_slice(rows);
 }

@@ -38,10 +38,8 @@ fn exchange_round(words: &mut [u64; 64], stride: usize, mask: u64, n: usize)
     if n <= stride {
         return;
     }
-    let mut begin = 0;
-    while begin < n {
+    for begin in (0..n).step_by(2 * stride) {
         exchange_block(words, begin, stride, mask);
-        begin = begin + 2 * stride;
     }
 }
 

@@ -1,3 +1,4 @@
+pub mod Chains
 pub mod Charging
 pub mod Stated
 pub mod Billing

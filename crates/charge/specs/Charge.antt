@@ -9,17 +9,17 @@
 --   charge_answer kind mark rows w minutes rate   what is answered with halves up                                       [02: K2]
 --   charge_to_even_answer kind mark rows w minutes rate   what is answered with halves to the even cent                   [02: K7]
 --   bill_of                                  an answer of the code as 02's number and values
-use Rattle.std.specs.Prelude.{ℕ, ◌*◌, ◌≤◌, ◌<◌, ◌≡◌, ◌⊎◌, Bool, not, ◌||◌, List, [], ◌∷◌, ◌++◌, ltb, eqb, length}
+use Rattle.std.specs.Prelude.{ℕ, ◌*◌, ◌≤◌, ◌<◌, ◌≡◌, ◌⊎◌, Bool, not, ◌||◌, List, [], ◌∷◌, ◌++◌, ltb, eqb, length, Result, Ok, Err}
 use Rattle.std.proofs.Math.Option.{none, some}
 use Rattle.bitset.specs.Below.{any_below}
 use Rattle.searches.specs.Kind.{search_of}
 use Rattle.searches.specs.Ordering.{arcs, at}
 use Rattle.searches.specs.Violation.{passes, judge}
 use Rattle.searches.specs.Answer.{is_pass, judge_tests, first_refusal, Accepts, number}
+use Rattle.searches.specs.declared.Refusal.{Refusal}
 use Rattle.searches.specs.declared.Mark.{Mark}
 use Rattle.cents.specs.Cents.{cents_halves_up, cents_to_even}
 use Rattle.minutes.specs.Minutes.{minutes_of}
-use Rattle.charge.specs.declared.Charged.{Charged}
 
 unfoldable pub product : (ℕ → ℕ → Bool) → List ℕ → List ℕ → ℕ → ℕ
 product arc w minutes rate = minutes_of arc w (length w) minutes * rate
@@ -71,6 +71,6 @@ charge_answer kind mark rows w minutes rate = bill_by cents_halves_up kind mark 
 unfoldable pub charge_to_even_answer : ℕ → Mark → List ℕ → List ℕ → List ℕ → ℕ → Bill
 charge_to_even_answer kind mark rows w minutes rate = bill_by cents_to_even kind mark rows w minutes rate
 
-unfoldable pub bill_of : Charged → Bill
-bill_of (Charged.Cents c) = cents c
-bill_of (Charged.Refused r) = refused (number r)
+unfoldable pub bill_of : Result ℕ Refusal → Bill
+bill_of (Ok c) = cents c
+bill_of (Err r) = refused (number r)

@@ -5,17 +5,10 @@
 ghost use Rattle.std.specs.Prelude.{◌≡◌};
 ghost use Rattle.searches.specs.Answer.{first_refusal, refusal_of};
 ghost use Rattle.cents.specs.Cents.{cents_by};
-ghost use Rattle.charge.specs.Charge.{malformed_minutes, tests_after_judge, charge_tests, bill_by, charge_answer, charge_to_even_answer, bill_of};
+ghost use Rattle.charge.specs.Charge.{malformed_minutes, charge_tests, bill_by, charge_answer, charge_to_even_answer, bill_of};
 
 use cents::Halves;
-use searches::{Judgement, Kind, Mark, Outcome, Refusal};
-
-// What charging for an ordering answers.
-#[derive(Clone, Copy)]
-pub enum Charged {
-    Cents(u64),
-    Refused(Refusal),
-}
+use searches::{Judgement, Kind, Mark, Refusal};
 
 // The charge, in cents, for an ordering that passes the search `kind`. The minutes of its vertices are those in `minutes`, entry v for vertex v, and
 // 7 more for each vertex after the first to which the one placed directly before it does not lead. Minutes times `rate`, in cents an hour, divided by
@@ -28,7 +21,7 @@ pub fn charge(
     ordering: &[u8],
     minutes: &[u16],
     rate: u64,
-) -> Charged
+) -> Result<u64, Refusal>
     ensures { bill_of result ≡ charge_to_even_answer kind.0 mark rows.now ordering.now minutes.now rate }
 {
     bill_by(kind, mark, rows, ordering, minutes, rate, Halves::ToEven)
@@ -43,7 +36,7 @@ pub fn charge_halves_up(
     ordering: &[u8],
     minutes: &[u16],
     rate: u64,
-) -> Charged
+) -> Result<u64, Refusal>
     ensures { bill_of result ≡ charge_answer kind.0 mark rows.now ordering.now minutes.now rate }
 {
     bill_by(kind, mark, rows, ordering, minutes, rate, Halves::Up)
@@ -58,18 +51,15 @@ fn bill_by(
     minutes: &[u16],
     rate: u64,
     halves: Halves,
-) -> Charged
+) -> Result<u64, Refusal>
     ensures { bill_of result ≡ bill_by (cents_by halves) kind.0 mark rows.now ordering.now minutes.now rate }
 {
-    let checked = charge_refusal(kind, mark, rows, ordering, minutes, rate);
-    if let Outcome::Refused(refusal) = checked {
-        return Charged::Refused(refusal);
-    }
+    charge_refusal(kind, mark, rows, ordering, minutes, rate)?;
     let spent = minutes::minutes_of(rows, ordering, minutes);
-    Charged::Cents(cents::cents_by(spent * rate, halves))
+    Ok(cents::cents_by(spent * rate, halves))
 }
 
-// The first of refusals 1 to 6, 8, 9, 18, 19 and 20 that applies, else `Done`.
+// The first of refusals 1 to 6, 8, 9, 18, 19 and 20 that applies, else `Ok`.
 fn charge_refusal(
     kind: Kind,
     mark: Mark,
@@ -77,49 +67,28 @@ fn charge_refusal(
     ordering: &[u8],
     minutes: &[u16],
     rate: u64,
-) -> Outcome
+) -> Result<(), Refusal>
     ensures { refusal_of result ≡ first_refusal (charge_tests kind.0 mark rows.now ordering.now minutes.now rate) }
 {
-    let n = rows.len();
     // no vertex is barred
-    let judged = engine::judge(kind, mark, rows, 0, ordering);
-    match judged {
-        Judgement::Passes => refusal_after_judge(n, minutes, rate, true),
-        Judgement::Fails(_) => refusal_after_judge(n, minutes, rate, false),
-        Judgement::Refused(refusal) => Outcome::Refused(refusal),
-    }
-}
-
-// The first of refusals 18, 19 and 20 that applies to an ordering of a graph of `n` vertices that judge did not refuse, else `Done`.
-fn refusal_after_judge(n: usize, minutes: &[u16], rate: u64, passing: bool) -> Outcome
-    ensures { refusal_of result ≡ first_refusal (tests_after_judge n minutes.now rate passing) }
-{
-    let malformed = malformed_minutes(n, minutes);
+    let judgement = engine::judge(kind, mark, rows, 0, ordering)?;
+    let malformed = malformed_minutes(rows.len(), minutes);
     let above = 99999 < rate;
     if malformed {
-        return Outcome::Refused(Refusal::MalformedMinutes);
+        return Err(Refusal::MalformedMinutes);
     }
     if above {
-        return Outcome::Refused(Refusal::RateTooHigh);
+        return Err(Refusal::RateTooHigh);
     }
-    if !passing {
-        return Outcome::Refused(Refusal::OrderingFails);
+    if let Judgement::Fails(_) = judgement {
+        return Err(Refusal::OrderingFails);
     }
-    Outcome::Done
+    Ok(())
 }
 
 // Whether the list does not have `n` entries, or has one above 999.
 fn malformed_minutes(n: usize, minutes: &[u16]) -> bool
     ensures { result ≡ malformed_minutes n minutes.now }
 {
-    let length = minutes.len();
-    if length != n {
-        return true;
-    }
-    for v in 0..length {
-        if 999 < minutes[v] {
-            return true;
-        }
-    }
-    false
+    minutes.len() != n || minutes.iter().any(|m| 999 < *m)
 }

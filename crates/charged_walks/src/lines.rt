@@ -1,23 +1,8 @@
 // The two calls, and their line.
 ghost use Rattle.std.specs.Prelude.{◌≤◌};
 
-use charge::Charged;
-use notation::{number, put, show};
+use notation::{number, put, show, show_answer};
 use searches::{Kind, Mark};
-
-// The answer of one call.
-fn show_charged(charged: Charged) {
-    match charged {
-        Charged::Cents(cents) => {
-            show(0);
-            show(cents);
-        }
-        Charged::Refused(refusal) => {
-            show(checks::number::number(refusal) as u64);
-            show(0);
-        }
-    }
-}
 
 // Both calls, and their line.
 pub fn play(kind: u8, mark: Mark, rows: &[u64], ordering: &[u8], minutes: &[u16], rate: u64) {
@@ -27,8 +12,8 @@ pub fn play(kind: u8, mark: Mark, rows: &[u64], ordering: &[u8], minutes: &[u16]
     show(ordering.len() as u64);
     show(minutes.len() as u64);
     show(rate);
-    show_charged(charge::charge(Kind(kind), mark, rows, ordering, minutes, rate));
-    show_charged(charge::charge_halves_up(Kind(kind), mark, rows, ordering, minutes, rate));
+    show_answer(charge::charge(Kind(kind), mark, rows, ordering, minutes, rate));
+    show_answer(charge::charge_halves_up(Kind(kind), mark, rows, ordering, minutes, rate));
     put(b'\n');
 }
 

@@ -3,22 +3,19 @@ ghost use Rattle.std.specs.Prelude.{◌≡◌};
 ghost use Rattle.searches.specs.Answer.{two_way_tests, first_refusal, refusal_of};
 
 use crate::graph_refusal;
-use searches::{Kind, Mark, Outcome, Refusal};
+use searches::{Kind, Mark, Refusal};
 
-// The first of refusals 2, 3, 4, 25 and 5, in this order, that applies to `rows`, else `Done`. It does not alter them.
-pub fn two_way_refusal(mark: Mark, rows: &[u64]) -> Outcome
+// The first of refusals 2, 3, 4, 25 and 5, in this order, that applies to `rows`, else `Ok`. It does not alter them.
+pub fn two_way_refusal(mark: Mark, rows: &[u64]) -> Result<(), Refusal>
     ensures { refusal_of result ≡ first_refusal (two_way_tests mark rows.now) }
 {
     // 2, 3 and 4, which are the same for every kind and either mark
-    let checked = graph_refusal(Kind::GENERIC, Mark::OneWay, rows);
-    if let Outcome::Refused(refusal) = checked {
-        return Outcome::Refused(refusal);
-    }
+    graph_refusal(Kind::GENERIC, Mark::OneWay, rows)?;
     if let Mark::OneWay = mark {
-        return Outcome::Refused(Refusal::OneWayGraph);
+        return Err(Refusal::OneWayGraph);
     }
     if lookup::rows::one_way(rows) {
-        return Outcome::Refused(Refusal::OneWayArc);
+        return Err(Refusal::OneWayArc);
     }
-    Outcome::Done
+    Ok(())
 }

@@ -6,10 +6,10 @@ ghost use Rattle.bitset.specs.Below.{last_below};
 ghost use Rattle.bitset.specs.Word.{member};
 ghost use Rattle.searches.specs.Kind.{search_of};
 ghost use Rattle.searches.specs.Ordering.{at};
-ghost use Rattle.labels.specs.Words.{Weighed};
 ghost use Rattle.offers.specs.Open.{Covers, Offers, chosen_in};
 ghost use Rattle.choice.specs.Ranks.{ranks_below, Ranked, Named};
 
+use labels::Labels;
 use searches::{Kind, Vertex};
 
 // The vertex at `i` of `list`; 0 behind its end.
@@ -28,9 +28,8 @@ pub fn rank(tie_break: &[u8], ranks: &mut [u8; 64])
     requires { (length tie_break.now ≤ 64) × ((q : ℕ) → q < length tie_break.now → at tie_break.now q < 64) × (ranks.old ≡ replicate 64 0) }
     ensures { ranks.new ≡ ranks_below tie_break.now (length tie_break.now) }
 {
-    for q in 0..tie_break.len() {
-        let v = tie_break[q] as usize;
-        ranks[v] = q as u8;
+    for (q, v) in tie_break.iter().enumerate() {
+        ranks[*v as usize] = q as u8;
     }
 }
 
@@ -52,29 +51,24 @@ fn last_of(tie_break: &[u8], ranks: &[u8; 64], set: u64) -> Vertex
 // The offered vertex that stands last in `tie_break`; its first entry where none is offered. `offered` are the offered vertices, `ranks` says where each vertex
 // stands in the tie-break, and `reached` holds every vertex whose label is not empty. In MNS the tie-break is read from its end.
 pub fn choose(
-    kind: Kind,
-    labels: &[u64; 64],
-    weights: &[u64; 64],
+    labels: &Labels,
     free: u64,
     reached: u64,
     offered: u64,
     tie_break: &[u8],
     ranks: &[u8; 64],
 ) -> Vertex
-    requires { Offers (search_of kind.0) labels.now free offered × Covers reached labels.now × Weighed (search_of kind.0) labels.now weights.now
+    requires { Offers (search_of labels.now.kind.0) labels.now.words free offered × Covers reached labels.now.words
         × (length tie_break.now ≤ 64) × Ranked tie_break.now ranks.now × Named tie_break.now free }
-    ensures { result.0 ≡ chosen_in (search_of kind.0) labels.now free tie_break.now }
+    ensures { result.0 ≡ chosen_in (search_of labels.now.kind.0) labels.now.words free tie_break.now }
 {
-    if kind.0 != Kind::MNS.0 {
+    if labels.kind != Kind::MNS {
         return last_of(tie_break, ranks, offered);
     }
-    let length = tie_break.len();
-    let mut passed = 0;
-    while passed < length {
-        passed += 1;
-        let v = entry(tie_break, length - passed);
-        if offers::leaders::is_open(kind, labels, weights, free, reached, offered, v) {
-            return v;
+    for v in tie_break.iter().rev() {
+        let vertex = Vertex(*v);
+        if offers::leaders::is_open(labels, free, reached, offered, vertex) {
+            return vertex;
         }
     }
     entry(tie_break, 0)

@@ -5,9 +5,10 @@
 --   refusal_in answer                 the number of the refusal, if it is one
 --   Shown arc n before answer after  what the output list, before the call and after it, has to do with the answer       [02: K9]
 --   answer_of                         an answer of the code as 02's number and values
-use Rattle.std.specs.Prelude.{ℕ, ◌≡◌, Bool, List, [], ◌∷◌, ◌++◌, ltb, length, drop}
+use Rattle.std.specs.Prelude.{ℕ, ◌≡◌, Bool, List, [], ◌∷◌, ◌++◌, ltb, length, drop, Result, Ok, Err}
 use Rattle.std.proofs.Math.Option.{Option, none, some}
 use Rattle.searches.specs.Answer.{two_way_tests, number}
+use Rattle.searches.specs.declared.Refusal.{Refusal}
 use Rattle.searches.specs.declared.Mark.{Mark}
 use Rattle.chordal.specs.Chordal.{IsChordlessCycle, Chordal, IsEliminationOrder}
 use Rattle.chordal.specs.declared.Chordality.{Chordality}
@@ -32,7 +33,7 @@ Shown arc n before chordal after = Chordal arc n × IsEliminationOrder arc n aft
 Shown arc n before (cycle m) after = IsChordlessCycle arc n after m × (drop m after ≡ drop m before)
 Shown arc n before (refused r) after = after ≡ before
 
-unfoldable pub answer_of : Chordality → Answer
-answer_of Chordality.Chordal = chordal
-answer_of (Chordality.Cycle m) = cycle m
-answer_of (Chordality.Refused r) = refused (number r)
+unfoldable pub answer_of : Result Chordality Refusal → Answer
+answer_of (Ok Chordality.Chordal) = chordal
+answer_of (Ok (Chordality.Cycle m)) = cycle m
+answer_of (Err r) = refused (number r)

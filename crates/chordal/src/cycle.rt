@@ -22,7 +22,7 @@ fn may_step(
 {
     let chord = joined(rows, ordering, to, top);
     let here = joined(rows, ordering, to, from);
-    ((to.0 == low.0) | ((low.0 < to.0) & !chord)) & here
+    ((to == low) | ((low.0 < to.0) & !chord)) & here
 }
 
 // Where the descent goes from position `from`: to the first position to which it may; `from` where there is none.

@@ -1,5 +1,5 @@
 // Gaps of an ordering: three positions of which the last is linked to both others, and these are not linked to each other.
-ghost use Rattle.std.specs.Prelude.{◌≡◌, ◌≤◌, ◌<◌, length};
+ghost use Rattle.std.specs.Prelude.{◌≡◌, ◌≤◌, ◌<◌, length, MatchOption};
 ghost use Rattle.searches.specs.Ordering.{arcs};
 ghost use Rattle.chordal.specs.Descent.{joined as joined_in, first_low, first_middle, first_top};
 ghost use Rattle.chordal.specs.Lists.{Ordered};
@@ -53,17 +53,18 @@ pub fn first_middle(rows: &[u64], ordering: &[u8], top: Position) -> Position
     top
 }
 
-// The first position that is the last one of a gap; the number of vertices where there is none.
-pub fn first_top(rows: &[u64], ordering: &[u8]) -> Position
+// The first position that is the last one of a gap, if there is one.
+pub fn first_top(rows: &[u64], ordering: &[u8]) -> Option<Position>
     requires { Ordered rows.now ordering.now }
-    ensures { result.0 ≡ first_top (arcs rows.now) ordering.now (length rows.now) }
+    ensures { MatchOption result (first_top (arcs rows.now) ordering.now (length rows.now) ≡ length rows.now)
+        (λ top. (top.0 ≡ first_top (arcs rows.now) ordering.now (length rows.now)) × (top.0 < length rows.now)) }
 {
     let n = rows.len();
     for l in 0..n {
         let top = Position(l);
         if first_middle(rows, ordering, top).0 < l {
-            return top;
+            return Some(top);
         }
     }
-    Position(n)
+    None
 }

@@ -13,58 +13,49 @@ ghost use Rattle.searches.specs.Answer.{first_refusal, refusal_of};
 ghost use Rattle.chordal.specs.Lists.{Ordered};
 ghost use Rattle.chordal.specs.Answer.{chordal_tests, refusal_in, Shown, answer_of};
 
-use searches::{Mark, Outcome, Refusal};
+use searches::{Mark, Refusal};
 
-// What asking whether a graph is chordal answers: that it is, that it is not, with the length of the cycle that was written, or why neither is told.
+// What asking whether a graph is chordal answers where it is not refused: that it is, or that it is not, with the length of the cycle that was written.
 #[derive(Clone, Copy)]
 pub enum Chordality {
     Chordal,
     Cycle(usize),
-    Refused(Refusal),
 }
 
 // Whether no four or more vertices form a cycle without a chord. If so, an elimination order of all vertices is written to the front of `output`: the later
 // neighbours of each are linked to one another. If not, such a cycle is written, in its order, and its length is answered. What stands behind them stays.
 // Everything else is refused (2, 3, 4, 25, 5, 10), and then `output` stays as it was. `rows` are not altered.
-pub fn decide(mark: Mark, rows: &[u64], output: &mut [u8]) -> Chordality
+pub fn decide(mark: Mark, rows: &[u64], output: &mut [u8]) -> Result<Chordality, Refusal>
     ensures answer { refusal_in (answer_of result) ≡ first_refusal (chordal_tests mark rows.now (length output.old)) }
     ensures output { Shown (arcs rows.now) (length rows.now) output.old (answer_of result) output.new }
 {
-    let checked = chordal_refusal(mark, rows, output.len());
-    if let Outcome::Refused(refusal) = checked {
-        return Chordality::Refused(refusal);
-    }
+    chordal_refusal(mark, rows, output.len())?;
     let mut ordering = [0u8; 64];
     order::write_order(rows, &mut ordering);
-    answer_from(rows, &ordering, output)
+    Ok(answer_from(rows, &ordering, output))
 }
 
-// The first of refusals 2, 3, 4, 25, 5 and 10 that applies, else `Done`. The output list has `room` bytes.
-fn chordal_refusal(mark: Mark, rows: &[u64], room: usize) -> Outcome
+// The first of refusals 2, 3, 4, 25, 5 and 10 that applies, else `Ok`. The output list has `room` bytes.
+fn chordal_refusal(mark: Mark, rows: &[u64], room: usize) -> Result<(), Refusal>
     ensures { refusal_of result ≡ first_refusal (chordal_tests mark rows.now room) }
 {
-    let checked = checks::two_way::two_way_refusal(mark, rows);
-    if let Outcome::Refused(refusal) = checked {
-        return Outcome::Refused(refusal);
-    }
+    checks::two_way::two_way_refusal(mark, rows)?;
     if room < rows.len() {
-        return Outcome::Refused(Refusal::OutputTooShort);
+        return Err(Refusal::OutputTooShort);
     }
-    Outcome::Done
+    Ok(())
 }
 
 // Decides by a LexDFS ordering: without a gap its vertices are an elimination order from the last to the first, and from a gap a cycle is found.
 fn answer_from(rows: &[u64], ordering: &[u8], output: &mut [u8]) -> Chordality
     requires { Ordered rows.now ordering.now × (length rows.now ≤ length output.old) }
-    ensures answer { refusal_in (answer_of result) ≡ none }
-    ensures output { Shown (arcs rows.now) (length rows.now) output.old (answer_of result) output.new }
+    ensures { Shown (arcs rows.now) (length rows.now) output.old (answer_of (Ok result)) output.new }
 {
-    let top = gap::first_top(rows, ordering);
-    if top.0 < rows.len() {
-        let middle = gap::first_middle(rows, ordering, top);
-        let low = gap::first_low(rows, ordering, top, middle);
-        return Chordality::Cycle(cycle::write_cycle(rows, ordering, low, middle, top, output));
-    }
-    order::write_turned(ordering, rows.len(), output);
-    Chordality::Chordal
+    let Some(top) = gap::first_top(rows, ordering) else {
+        order::write_turned(ordering, rows.len(), output);
+        return Chordality::Chordal;
+    };
+    let middle = gap::first_middle(rows, ordering, top);
+    let low = gap::first_low(rows, ordering, top, middle);
+    Chordality::Cycle(cycle::write_cycle(rows, ordering, low, middle, top, output))
 }

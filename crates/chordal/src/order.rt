@@ -14,8 +14,8 @@ fn write_numbers(list: &mut [u8; 64])
     requires { length list.old ≡ 64 }
     ensures { list.new ≡ numbers 64 }
 {
-    for p in 0..64 {
-        list[p] = p as u8;
+    for (p, entry) in list.iter_mut().enumerate() {
+        *entry = p as u8;
     }
 }
 
@@ -29,7 +29,8 @@ pub fn write_order(rows: &[u64], ordering: &mut [u8; 64])
     let mut numbers = [0u8; 64];
     write_numbers(&mut numbers);
     let n = rows.len();
-    engine::carry_on(
+    // not refused: graph and tie-break are valid, and there is room
+    let _ = engine::carry_on(
         Kind::LEX_DFS,
         Mark::TwoWay,
         rows,

@@ -3,19 +3,19 @@ ghost use Rattle.std.specs.Prelude.{◌≤◌};
 
 use chordal::Chordality;
 use notation::{number, put, show, show_bar, show_list, show_plan};
-use searches::Mark;
+use searches::{Mark, Refusal};
 
 // The answer: y for a plan without a chordless ring, n and the length of the ring, or r and the number of the refusal.
-pub fn show_answer(answer: Chordality) {
+pub fn show_answer(answer: Result<Chordality, Refusal>) {
     match answer {
-        Chordality::Chordal => put(b'y'),
-        Chordality::Cycle(length) => {
+        Ok(Chordality::Chordal) => put(b'y'),
+        Ok(Chordality::Cycle(length)) => {
             put(b'n');
             show(length as u64);
         }
-        Chordality::Refused(refusal) => {
+        Err(refusal) => {
             put(b'r');
-            show(checks::number::number(refusal) as u64);
+            show(refusal as u64);
         }
     }
 }

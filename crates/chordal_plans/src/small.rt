@@ -2,13 +2,13 @@
 ghost use Rattle.std.specs.Prelude.{◌≤◌};
 
 use crate::lines::show_answer;
-use notation::{put, wide};
+use notation::put;
 use searches::Mark;
 
 // Prints the bytes of a list without spaces.
 fn show_digits(list: &[u8]) {
-    for p in 0..list.len() {
-        io::print_decimal(1, wide(list[p]));
+    for byte in list {
+        io::print_decimal(1, u64::from(*byte));
     }
 }
 

@@ -41,7 +41,7 @@ const PENDANT_ON_1: u64 = 0x0a0d0203_00000000;
 fn compare(traversal: Traversal, first: u8, second: u8) -> Traversal {
     let compared = traversal.compare(Vertex(first), Vertex(second));
     let standing = compared.standing;
-    lines::show_standing(standing);
+    notation::show_standing(standing);
     compared.traversal
 }
 
@@ -84,7 +84,7 @@ fn compare_all(traversal: Traversal) -> Traversal {
 // With an offered point placed; where all are placed, as it was.
 fn grown(traversal: Traversal, random: u64) -> Traversal {
     let seen = traversal.offered();
-    let set = seen.set;
+    let set = seen.set.unwrap_or(0);
     let t = seen.traversal;
     let stepped = t.place(Vertex(plans::chosen(set, random)));
     stepped.traversal
@@ -131,8 +131,8 @@ fn step_back(traversal: Traversal) -> Traversal {
 // A random number for each kind, mark, n and number of links.
 fn seed(kind: u8, mark: Mark, n: usize, links: u8) -> u64 {
     let digits = (n as u64)
-        ^ (notation::wide(links) << 8)
-        ^ (notation::wide(kind) << 16)
+        ^ (u64::from(links) << 8)
+        ^ (u64::from(kind) << 16)
         ^ (notation::number(mark) << 24);
     next(next(next(digits ^ 0x9e3779b97f4a7c15)))
 }

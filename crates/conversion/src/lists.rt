@@ -9,8 +9,8 @@ pub fn arc_count(rows: &[u64]) -> usize
     ensures { result ≡ length (neighbours_of rows.now) }
 {
     let mut count = 0usize;
-    for u in 0..rows.len() {
-        count = count + bitset::size(rows[u]);
+    for row in rows {
+        count = count + bitset::size(*row);
     }
     count
 }
@@ -39,8 +39,8 @@ pub fn write_lists(rows: &[u64], offsets: &mut [u16], neighbours: &mut [u8])
 {
     let mut end = 0usize;
     offsets[0] = 0;
-    for u in 0..rows.len() {
-        end = write_numbers(rows[u], neighbours, end);
+    for (u, row) in rows.iter().enumerate() {
+        end = write_numbers(*row, neighbours, end);
         offsets[u + 1] = end as u16;
     }
 }

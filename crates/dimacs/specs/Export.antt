@@ -4,13 +4,13 @@
 --   Exports                       written m: a text of m bytes; refused r: the refusal with number r
 --   export_answer, export_output    what is answered, and what the output list then holds
 --   exported_of                    an answer of the code as 02's number and value
-use Rattle.std.specs.Prelude.{ℕ, Bool, List, [], ◌∷◌, ◌++◌, ltb, length, drop}
+use Rattle.std.specs.Prelude.{ℕ, Bool, List, [], ◌∷◌, ◌++◌, ltb, length, drop, Result, Ok, Err}
 use Rattle.std.proofs.Math.Option.{none, some}
 use Rattle.searches.specs.Answer.{two_way_tests, first_refusal, number}
+use Rattle.searches.specs.declared.Refusal.{Refusal}
 use Rattle.searches.specs.declared.Mark.{Mark}
 use Rattle.plan_text.specs.Text.{plan_text}
 use Rattle.plan_text.specs.declared.Format.{Format}
-use Rattle.dimacs.specs.declared.export.Exported.{Exported}
 
 -- the p line, then every link once                                                                                [02: K13, export]
 unfoldable pub edge_file : List ℕ → List ℕ
@@ -39,6 +39,6 @@ module _ (mark : Mark) (rows out : List ℕ) where
         | some r ↦ out
       ]
 
-unfoldable pub exported_of : Exported → Exports
-exported_of (Exported.Length m) = written m
-exported_of (Exported.Refused r) = refused (number r)
+unfoldable pub exported_of : Result ℕ Refusal → Exports
+exported_of (Ok m) = written m
+exported_of (Err r) = refused (number r)

@@ -14,13 +14,13 @@
 --   Imports                       read n: a plan of n points; refused r: the refusal with number r
 --   import_answer, import_output    what is answered, and what the output list then holds
 --   imported_of                    an answer of the code as 02's number and value
-use Rattle.std.specs.Prelude.{ℕ, ◌-◌, Bool, true, false, cond, not, ◌&&◌, ◌||◌, List, [], ◌∷◌, ◌++◌, ltb, leb, eqb, length, take, drop, replicate}
+use Rattle.std.specs.Prelude.{ℕ, ◌-◌, Bool, true, false, cond, not, ◌&&◌, ◌||◌, List, [], ◌∷◌, ◌++◌, ltb, leb, eqb, length, take, drop, replicate, Result, Ok, Err}
 use Rattle.std.proofs.Math.Option.{none, some}
 use Rattle.searches.specs.Answer.{first_refusal, number}
+use Rattle.searches.specs.declared.Refusal.{Refusal}
 use Rattle.lines.specs.Line.{joined}
 use Rattle.edge_lines.specs.Reading.{told}
 use Rattle.edge_lines.specs.declared.Line.{Line}
-use Rattle.dimacs.specs.declared.import.Imported.{Imported}
 
 unfoldable pub is_comment : Line → Bool
 is_comment Line.Comment = true
@@ -148,6 +148,6 @@ module _ (b out : List ℕ) where
         | some r ↦ out
       ]
 
-unfoldable pub imported_of : Imported → Imports
-imported_of (Imported.Points n) = read n
-imported_of (Imported.Refused r) = refused (number r)
+unfoldable pub imported_of : Result ℕ Refusal → Imports
+imported_of (Ok n) = read n
+imported_of (Err r) = refused (number r)

@@ -16,6 +16,7 @@ use native.Mathlib.Omega.{arith}
 use borrow.Author.Tests.{lt-ltb, le-ltb}
 use lib.ListN.{length, take, drop, replicate, length-append}
 use lib.Seq.{sets, take_at, length-sets}
+use Rattle.std.specs.Prelude.{Result, Ok, Err}
 use Rattle.bitset.proofs.Tests.{below_or}
 use Rattle.searches.specs.Ordering.{IsOrdering}
 use Rattle.searches.specs.Answer.{number, is_two_way, open_tests, two_way_tests, first_refusal, Accepts, Refuses}
@@ -31,7 +32,6 @@ use Rattle.plan_text.specs.Text.{plan_text, room}
 use Rattle.plan_text.specs.declared.Format.{Format}
 use Rattle.plan_text.proofs.Texts.{sheet_text_lem, text_room}
 use Rattle.dimacs.specs.Import.{content, points, drawn_rows, import_tests, import_answer, import_output, read, refused, imported_of}
-use Rattle.dimacs.specs.declared.import.Imported.{Imported}
 use Rattle.dimacs.proofs.Refusing.{read_import, import_refuses, refuses_import}
 use Rattle.dimacs.proofs.Accepted.{accepted_out, output_read, rows_length, rows_words, valid_drawn}
 use Rattle.drawing.specs.Sheet.{sheet_text, sheet_in, sheet_length}
@@ -77,7 +77,7 @@ module _ (b : List ℕ) where
 
   -- ---- what import answered and left
 
-  module _ {answer : Imported} {n : ℕ} {rows : List ℕ} (is : answer ≡ Imported.Points n) (answered : imported_of answer ≡ import_answer b (replicate 64 0))
+  module _ {answer : Result ℕ Refusal} {n : ℕ} {rows : List ℕ} (is : answer ≡ Ok n) (answered : imported_of answer ≡ import_answer b (replicate 64 0))
       (left : rows ≡ import_output b (replicate 64 0)) where
     reads : read n ≡ import_answer b (replicate 64 0)
     unfolding imported_of
@@ -94,7 +94,7 @@ module _ (b : List ℕ) where
     pub part_sheet : sheet_text b ≡ plan_text Format.Sheet (take n rows)
     part_sheet = sheet_read (plan_accepted n reads) ∙ sym (ap (plan_text Format.Sheet) (plan_part n reads left) ∙ sheet_text_lem (drawn_rows (content b)))
 
-  pub refusal_sheet : {answer : Imported} {r : Refusal} → answer ≡ Imported.Refused r → imported_of answer ≡ import_answer b (replicate 64 0) → sheet_text b ≡ line (number r ∷ [])
+  pub refusal_sheet : {answer : Result ℕ Refusal} {r : Refusal} → answer ≡ Err r → imported_of answer ≡ import_answer b (replicate 64 0) → sheet_text b ≡ line (number r ∷ [])
   unfolding imported_of
   refusal_sheet {answer} {r} is answered = sheet_refused (number r) (sym (ap imported_of is) ∙ answered)
 

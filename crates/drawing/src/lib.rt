@@ -5,7 +5,7 @@ ghost use Rattle.std.specs.Prelude.{◌≡◌};
 ghost use Rattle.drawing.specs.Sheet.{sheet_in, sheet_length};
 
 use checks::number::number;
-use dimacs::import::{Imported, import};
+use dimacs::import::import;
 use fields::write::line_of_one;
 use plan_text::{Format, write_plan};
 
@@ -20,12 +20,8 @@ pub fn sheet_of(file: &[u8], output: &mut [u8]) -> usize
         return 0;
     }
     let mut rows = [0u64; 64];
-    let imported = import(file, &mut rows);
-    match imported {
-        Imported::Points(n) => write_plan(Format::Sheet, &rows[..n], output),
-        Imported::Refused(refusal) => {
-            let refused = number(refusal) as usize;
-            line_of_one(output, 0, refused)
-        }
+    match import(file, &mut rows) {
+        Ok(n) => write_plan(Format::Sheet, &rows[..n], output),
+        Err(refusal) => line_of_one(output, 0, number(refusal) as usize),
     }
 }

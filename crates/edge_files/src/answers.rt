@@ -1,34 +1,32 @@
 // How answers are printed.
-use dimacs::export::Exported;
-use dimacs::import::Imported;
 use notation::{put, show};
 use searches::Refusal;
 
 fn show_refusal(refusal: Refusal) {
     put(b'r');
-    show(checks::number::number(refusal) as u64);
+    show(refusal as u64);
 }
 
 // The answer of import: n and how many points there are, or r and the number of the refusal.
-pub fn show_imported(answer: Imported) {
+pub fn show_imported(answer: Result<usize, Refusal>) {
     put(b' ');
     match answer {
-        Imported::Points(n) => {
+        Ok(n) => {
             put(b'n');
             show(n as u64);
         }
-        Imported::Refused(refusal) => show_refusal(refusal),
+        Err(refusal) => show_refusal(refusal),
     }
 }
 
 // The answer of export: w and how many bytes were written, or r and the number of the refusal.
-pub fn show_exported(answer: Exported) {
+pub fn show_exported(answer: Result<usize, Refusal>) {
     put(b' ');
     match answer {
-        Exported::Length(length) => {
+        Ok(length) => {
             put(b'w');
             show(length as u64);
         }
-        Exported::Refused(refusal) => show_refusal(refusal),
+        Err(refusal) => show_refusal(refusal),
     }
 }

@@ -2,15 +2,11 @@
 ghost use Rattle.std.specs.Prelude.{◌≤◌};
 
 use crate::calls;
-use dimacs::export::Exported;
 use searches::Mark;
 
 // Writes the file of a valid plan. Returns how many bytes it has.
 fn write(rows: &[u64], text: &mut [u8]) -> usize {
-    match dimacs::export::export(Mark::TwoWay, rows, text) {
-        Exported::Length(length) => length,
-        Exported::Refused(refusal) => 0,
-    }
+    dimacs::export::export(Mark::TwoWay, rows, text).unwrap_or(0)
 }
 
 fn import_written(rows: &[u64], room: usize, text: &mut [u8])

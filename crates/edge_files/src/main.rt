@@ -23,7 +23,7 @@ use searches::Mark;
 
 // A random number for each n and number of links.
 fn seed(n: usize, links: u8) -> u64 {
-    next(next(next((n as u64) ^ (notation::wide(links) << 8) ^ 0x9e3779b97f4a7c15)))
+    next(next(next((n as u64) ^ (u64::from(links) << 8) ^ 0x9e3779b97f4a7c15)))
 }
 
 // Export with output lists of every length that matters, and import of what it wrote.

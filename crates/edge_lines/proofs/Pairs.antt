@@ -1,6 +1,7 @@
 -- Words with two numbers behind them: what is written is read, and nothing else is.
 --   begins_in, begins_out      a text with these words in front begins with them, and nothing else does
 --   pair_first, pair_second    the digits that are read of the words with x and y behind them are those of x and of y
+--   PairTests words b          the five tests of a pair hold;   tests_in, tests_out   so it is one, and the other way round
 --   pair_in                    words with two numbers behind them are a pair
 --   pair_out                   a pair is the words with the two numbers behind them that are read
 -- Assumes nothing.
@@ -41,7 +42,7 @@ begins_out (c ∷ words) (d ∷ b) t =
 -- ---- what a pair is
 
 -- the five tests of a pair
-record PairTests (words b : List ℕ) : Type 0 where
+pub record PairTests (words b : List ℕ) : Type 0 where
   pub begun : T (begins words b)
   pub first : T (is_numeral (first_digits words b))
   pub spaced : at (behind_first words b) 0 ≡ 32
@@ -68,7 +69,7 @@ module _ (words b : List ℕ) where
   abbrev ended : Bool
   ended = eqb (length (behind_second words b)) 0
 
-  tests_in : PairTests words b → T (is_pair words b)
+  pub tests_in : PairTests words b → T (is_pair words b)
   unfolding is_pair
   tests_in p =
       let two = and_in begun first p.begun p.first in
@@ -76,7 +77,7 @@ module _ (words b : List ℕ) where
       let four = and_in ((begun && first) && spaced) second three p.second in
       and_in (((begun && first) && spaced) && second) ended four (subst (λ (l : List ℕ). T (eqb (length l) 0)) (sym p.ended) tt)
 
-  tests_out : T (is_pair words b) → PairTests words b
+  pub tests_out : T (is_pair words b) → PairTests words b
   unfolding is_pair
   tests_out t =
       let all_five = and_out (((begun && first) && spaced) && second) ended t in

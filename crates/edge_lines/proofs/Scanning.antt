@@ -1,12 +1,14 @@
 -- Bytes read one after the other through a cursor.
 --   left_more, left_none              what is left at an offset
---   begins_more, begins_short, begins_other, begins_all      whether a list begins with some bytes, decided byte by byte
+--   begins_starts                     how a list begins, as the library's starts_with has it
 --   front_more, behind_more, front_stop, behind_stop         the bytes at an offset that pass a test, and those behind them
 --   Counting line start end x     the digits from start up to end were read, and count x
 --   counting_start, counting_next, counting_value, counting_rest   its turns, and what they come to;   numeral_test   whether the digits are a number as it is written
 --   other_in, other_out               a line end, and any other byte;   digit_range, digit_inside   a digit
 --   past_one, past_none               one byte further
---   second_digits_lem, pair_test          words, a number, one space, a number: decided from where the numbers end
+--   number_some, number_none          a number that is read, and digits that are none
+--   gap_byte, second_digits_lem, left_behind      words, a number, one space, a number: found where the numbers end
+--   line_ended, line_unended          where the first line end stands, and that there is none, as the library's position has it
 --   line_inside, unended_said, unended_rest, ended_said, ended_rest       a line, and what is left behind it
 -- Assumes nothing.
 use Prim.Native.Nat.{ℕ, suc, ◌+◌, ◌-◌, ◌≤◌, ◌<◌}
@@ -17,14 +19,18 @@ use mathlib.Core.List.{List, [], ◌∷◌}
 use native.Mathlib.Numerals.{add-one}
 use native.Mathlib.Omega.{arith}
 use borrow.Author.Tests.{eq-eqb, ne_eqb}
-use lib.Dec.{T, ltb, leb, eqb, ltb→lt, leb→le, le→leb, eqb→eq, not_T, T_not}
+use lib.Dec.{T, ltb, eqb, ltb→lt, eqb→eq, not_T, T_not, nltb→le}
 use lib.ListN.{length, take, drop, length-drop, drop_of_length-le, get_or-eq_default}
 use lib.Seq.{drop-cons, drop-drop, get_or-drop}
-use Rattle.bitset.proofs.Tests.{same_test, and_out, cond_yes, cond_no, below_or, decided}
+use lib.Pointwise.{pointwise}
+use Rattle.std.specs.Prelude.{Option, Some, None, MatchOption, position, ◌==◌}
+use Rattle.std.specs.List.{position_or_len}
+use Rattle.std.proofs.lemmas.Option.{MatchOption-at_some, MatchOption-at_none}
+use Rattle.bitset.proofs.Tests.{and_out, eqb_comm, said_false, cond_yes, cond_no, below_or, decided}
 use Rattle.searches.specs.Ordering.{at}
 use Rattle.wording.specs.Decimal.{is_digit, value}
 use Rattle.wording.specs.Reading.{is_other, front, behind}
-use Rattle.edge_lines.specs.Reading.{begins, is_numeral, first_digits, behind_first, second_digits, behind_second, is_pair, said, next_said, behind_line, capped, appended}
+use Rattle.edge_lines.specs.Reading.{begins, is_numeral, behind_first, second_digits, behind_second, said, next_said, behind_line, capped, appended, NumberOf}
 use Rattle.edge_lines.specs.declared.Line.{Line}
 use Rattle.edge_lines.proofs.Numerals.{capped_from, capped_value}
 
@@ -37,24 +43,11 @@ left_none b h = drop_of_length-le b h
 
 -- ---- how a list begins
 
-module _ (words b : List ℕ) {i : ℕ} (h : i < length words) where
-  pub begins_short : length b ≤ i → false ≡ begins (drop i words) (drop i b)
-  unfolding begins
-  begins_short g = sym (ap₂ begins (left_more words h) (left_none b g))
-
-  begins_both : i < length b → begins (drop i words) (drop i b) ≡ (eqb (at b i) (at words i) && begins (drop (i + 1) words) (drop (i + 1) b))
-  unfolding begins
-  begins_both g = ap₂ begins (left_more words h) (left_more b g)
-
-  pub begins_other : i < length b → eqb (at b i) (at words i) ≡ false → false ≡ begins (drop i words) (drop i b)
-  begins_other g e = sym (begins_both g ∙ ap (λ (t : Bool). t && begins (drop (i + 1) words) (drop (i + 1) b)) e)
-
-  pub begins_more : i < length b → eqb (at b i) (at words i) ≡ true → begins (drop i words) (drop i b) ≡ begins (drop (i + 1) words) (drop (i + 1) b)
-  begins_more g e = begins_both g ∙ ap (λ (t : Bool). t && begins (drop (i + 1) words) (drop (i + 1) b)) e
-
-pub begins_all : (words b : List ℕ) {i : ℕ} → length words ≤ i → true ≡ begins (drop i words) (drop i b)
+pub begins_starts : (words b : List ℕ) → pointwise eqb words (take (length words) b) ≡ begins words b
 unfolding begins
-begins_all words b {i} h = sym (ap (λ (w : List ℕ). begins w (drop i b)) (left_none words h))
+begins_starts [] b = refl
+begins_starts (c ∷ words) [] = refl
+begins_starts (c ∷ words) (d ∷ b) = ap₂ (λ (x y : Bool). x && y) (eqb_comm c d) (begins_starts words b)
 
 -- ---- bytes that pass a test
 
@@ -175,39 +168,33 @@ past_none b i h = left_none b h ∙ sym (ap (λ (x : List ℕ). drop 1 x) (left_
 
 -- ---- words and two numbers
 
--- where the first number ends, the second one begins, and the second one ends
-module _ (words line : List ℕ) (gap begin end : ℕ) (first : drop gap line ≡ behind_first words line) (further : drop begin line ≡ drop 1 (drop gap line))
-    (last : drop end line ≡ behind is_digit (drop begin line)) where
-  second_begun : drop begin line ≡ drop 1 (behind_first words line)
-  second_begun = further ∙ ap (λ (b : List ℕ). drop 1 b) first
+module _ (d : List ℕ) {read : Option ℕ} (is : MatchOption read (is_numeral d ≡ false) (NumberOf d)) where
+  pub number_some : {x : ℕ} → read ≡ Some x → NumberOf d x
+  number_some {x} e = MatchOption-at_some (is_numeral d ≡ false) (NumberOf d) x e is
 
-  pub second_digits_lem : front is_digit (drop begin line) ≡ second_digits words line
-  unfolding second_digits
-  second_digits_lem = ap (front is_digit) second_begun
+  pub number_none : read ≡ None → T (is_numeral d) → ⊥
+  number_none e = said_false (is_numeral d) refl (MatchOption-at_none (is_numeral d ≡ false) (NumberOf d) e is)
 
-  gap_byte : at line gap ≡ at (behind_first words line) 0
+-- where the first number ends
+module _ (words line : List ℕ) (gap : ℕ) (first : drop gap line ≡ behind_first words line) where
+  pub gap_byte : at line gap ≡ at (behind_first words line) 0
   gap_byte =
       let here : gap ≡ gap + 0 = omega arith in
       ap (λ (i : ℕ). at line i) here ∙ sym (get_or-drop gap line 0 0) ∙ ap (λ (b : List ℕ). at b 0) first
 
-  ended_test : leb (length line) end ≡ eqb (length (behind_second words line)) 0
-  unfolding behind_second
-  ended_test =
-      let long : length (behind is_digit (drop 1 (behind_first words line))) ≡ length line - end =
-      ap length (sym (last ∙ ap (behind is_digit) second_begun)) ∙ length-drop end line
-      in
-      same_test (leb (length line) end) (eqb (length (behind is_digit (drop 1 (behind_first words line)))) 0)
-      (λ t. let h = leb→le (length line) end t in subst (λ (m : ℕ). T (eqb m 0)) (let none_left : 0 ≡ length (behind is_digit (drop 1 (behind_first words line))) = omega arith in none_left) tt)
-      (λ t. let e = eqb→eq (length (behind is_digit (drop 1 (behind_first words line)))) 0 t in le→leb (length line) end (omega arith))
+  -- where the second one begins
+  module _ (begin : ℕ) (further : drop begin line ≡ drop 1 (drop gap line)) where
+    second_begun : drop begin line ≡ drop 1 (behind_first words line)
+    second_begun = further ∙ ap (λ (b : List ℕ). drop 1 b) first
 
-  pub pair_test : {begun one two : Bool} {byte : ℕ} → begun ≡ begins words line → one ≡ is_numeral (first_digits words line) → byte ≡ at line gap
-      → two ≡ is_numeral (front is_digit (drop begin line))
-      → ((((begun && one) && eqb byte 32) && two) && leb (length line) end) ≡ is_pair words line
-  unfolding is_pair
-  pair_test p q r s =
-      ap₂ (λ (x y : Bool). x && y)
-      (ap₂ (λ (x y : Bool). x && y)
-      (ap₂ (λ (x y : Bool). x && y) (ap₂ (λ (x y : Bool). x && y) p q) (ap (λ (b : ℕ). eqb b 32) (r ∙ gap_byte))) (s ∙ ap is_numeral second_digits_lem)) ended_test
+    pub second_digits_lem : front is_digit (drop begin line) ≡ second_digits words line
+    unfolding second_digits
+    second_digits_lem = ap (front is_digit) second_begun
+
+    -- and where it ends
+    pub left_behind : (end : ℕ) → drop end line ≡ behind is_digit (drop begin line) → drop end line ≡ behind_second words line
+    unfolding behind_second
+    left_behind end last = last ∙ ap (behind is_digit) second_begun
 
 -- ---- a line
 
@@ -238,6 +225,38 @@ module _ (test : ℕ → Bool) where
       go : (t : Bool) → length (front test b) ≤ length b → length (cond t (c ∷ front test b) []) ≤ suc (length b)
       go true rest = omega arith
       go false rest = omega arith
+
+-- a line end, and none
+line_prefix : (b : List ℕ) → position_or_len (λ c. c == 10) b ≡ length (front (is_other 10) b)
+unfolding front is_other
+line_prefix [] = refl
+line_prefix (c ∷ b) = go (not (eqb c 10)) (line_prefix b)
+  where
+    go : (t : Bool) → position_or_len (λ c. c == 10) b ≡ length (front (is_other 10) b)
+        → cond t (1 + position_or_len (λ c. c == 10) b) 0 ≡ length (cond t (c ∷ front (is_other 10) b) [])
+    go true rest = omega arith
+    go false rest = refl
+
+module _ (b : List ℕ) where
+  abbrev until : ℕ
+  until = position_or_len (λ c. c == 10) b
+
+  pub line_ended : {n : ℕ} → Some n ≡ position (λ c. c == 10) b → (n ≡ length (front (is_other 10) b)) × (n < length b)
+  line_ended {n} e = go (ltb until (length b)) (λ t. t) e
+    where
+      go : (t : Bool) → (T t → T (ltb until (length b))) → Some n ≡ cond t (Some until) None → (n ≡ length (front (is_other 10) b)) × (n < length b)
+      go true inside is =
+          let here : n ≡ until = cc in
+          let less : until < length b = ltb→lt until (length b) (inside tt) in
+          (here ∙ line_prefix b, omega arith)
+      go false inside is = cc
+
+  pub line_unended : None ≡ position (λ c. c == 10) b → length b ≡ length (front (is_other 10) b)
+  line_unended e = go (ltb until (length b)) (λ t. t) e
+    where
+      go : (t : Bool) → (T (ltb until (length b)) → T t) → None ≡ cond t (Some until) None → length b ≡ length (front (is_other 10) b)
+      go true outside is = cc
+      go false outside is = omega (arith, line_prefix b, front_short (is_other 10) b, nltb→le until (length b) (not_T (ltb until (length b)) outside))
 
 -- from start up to its line end, or the end of the file
 module _ (file : List ℕ) (start stop : ℕ) (found : stop ≡ start + length (front (is_other 10) (drop start file))) where

@@ -8,7 +8,9 @@
 --   next_said b, behind_line b  what the first line of b says, and what is left behind its line end
 --   most, capped x            10^19, and x or, where that is more, 10^19;   appended x c   the same of a number with one digit more
 --   capped_line l              the line l with its numbers capped
-use Rattle.std.specs.Prelude.{ℕ, ◌+◌, ◌*◌, Bool, true, false, cond, not, ◌&&◌, ◌||◌, List, [], ◌∷◌, ◌++◌, ltb, eqb, length, drop}
+--   NumberOf d x              the digits d are a number as it is written, and x is it, capped
+--   NumbersOf words b pair     b is words, a number, one space, a number, and the pair is these numbers, capped
+use Rattle.std.specs.Prelude.{ℕ, ◌+◌, ◌*◌, ◌≡◌, Bool, true, false, cond, not, ◌&&◌, ◌||◌, List, [], ◌∷◌, ◌++◌, ltb, eqb, length, drop}
 use Rattle.searches.specs.Ordering.{at}
 use Rattle.fields.specs.Field.{digit_value}
 use Rattle.wording.specs.Text.{bytes}
@@ -80,3 +82,9 @@ capped_line Line.Comment = Line.Comment
 capped_line (Line.Problem n m) = Line.Problem (capped n) (capped m)
 capped_line (Line.Edge u v) = Line.Edge (capped u) (capped v)
 capped_line Line.Other = Line.Other
+
+abbrev pub NumberOf : List ℕ → ℕ → Type 0
+NumberOf d x = (is_numeral d ≡ true) × (x ≡ capped (value d))
+
+abbrev pub NumbersOf : List ℕ → List ℕ → ℕ × ℕ → Type 0
+NumbersOf words b pair = (is_pair words b ≡ true) × (pair.0 ≡ capped (value (first_digits words b))) × (pair.1 ≡ capped (value (second_digits words b)))

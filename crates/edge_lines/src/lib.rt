@@ -3,10 +3,8 @@
 
 mod number;
 
-ghost use Rattle.std.specs.Prelude.{◌≡◌, ◌+◌, ◌≤◌, ◌<◌, length, drop};
-ghost use Rattle.wording.specs.Decimal as decimal;
-ghost use Rattle.wording.specs.Reading.{is_other, front};
-ghost use Rattle.edge_lines.specs.Reading.{begins, is_pair, first_digits, second_digits, said, next_said, behind_line, capped, capped_line};
+ghost use Rattle.std.specs.Prelude.{◌≡◌, ◌==◌, ◌≤◌, ◌<◌, false, MatchOption, length, drop, position};
+ghost use Rattle.edge_lines.specs.Reading.{is_pair, NumbersOf, said, next_said, behind_line, capped_line};
 
 use crate::number::{next, read_number};
 use fields::field::byte_at;
@@ -33,78 +31,48 @@ pub struct Step {
     pub rest: Cursor,
 }
 
-// Two numbers, and whether they stand there in the form.
-#[derive(Clone, Copy)]
-struct Pair {
-    sound: bool,
-    first: u64,
-    second: u64,
-}
-
-// Whether a line begins with `words`.
-fn begins_with(line: &[u8], words: &[u8]) -> bool
-    ensures { result ≡ begins words.now line.now }
+// The two numbers of a line that is just these: words, a number, one space, a number.
+fn read_pair(line: &[u8], words: &[u8]) -> Option<(u64, u64)>
+    ensures { MatchOption result (is_pair words.now line.now ≡ false) (NumbersOf words.now line.now) }
 {
-    for i in 0..words.len() {
-        if line.len() <= i {
-            return false;
-        }
-        if line[i] != words[i] {
-            return false;
-        }
+    if !line.starts_with(words) {
+        return None;
     }
-    true
-}
-
-// The two numbers behind `words`, and whether the line is just these: words, a number, one space, a number.
-fn read_pair(line: &[u8], words: &[u8]) -> Pair
-    ensures sound { result.sound ≡ is_pair words.now line.now }
-    ensures first { result.first ≡ capped (decimal.value (first_digits words.now line.now)) }
-    ensures second { result.second ≡ capped (decimal.value (second_digits words.now line.now)) }
-{
-    let begun = begins_with(line, words);
     let first = read_number(line, Cursor { at: words.len() });
+    let x = first.value?;
     let gap = first.rest;
-    let spaced = byte_at(line, gap.at) == 32;
-    let second = read_number(line, next(line, gap));
-    let end = second.rest;
-    let ended = line.len() <= end.at;
-    Pair {
-        sound: (((begun & first.sound) & spaced) & second.sound) & ended,
-        first: first.value,
-        second: second.value,
+    if byte_at(line, gap.at) != 32 {
+        return None;
     }
+    let second = read_number(line, next(line, gap));
+    let y = second.value?;
+    if second.rest.at < line.len() {
+        return None;
+    }
+    Some((x, y))
 }
 
 // What a line says. Its bytes come without the line end.
 fn read_line(line: &[u8]) -> Line
     ensures { result ≡ capped_line (said line.now) }
 {
-    if begins_with(line, b"c") {
+    if line.starts_with(b"c") {
         return Line::Comment;
     }
-    let edge = read_pair(line, b"e ");
-    if edge.sound {
-        return Line::Edge(edge.first, edge.second);
+    if let Some((u, v)) = read_pair(line, b"e ") {
+        return Line::Edge(u, v);
     }
-    let problem = read_pair(line, b"p edge ");
-    if problem.sound {
-        return Line::Problem(problem.first, problem.second);
+    if let Some((n, m)) = read_pair(line, b"p edge ") {
+        return Line::Problem(n, m);
     }
     Line::Other
 }
 
-// Where the next line end stands, from `start` on; the end of the file where there is none.
-fn line_end(file: &[u8], start: usize) -> usize
-    requires { start ≤ length file.now }
-    ensures { result ≡ start + length (front (is_other 10) (drop start file.now)) }
+// How many bytes stand before the first line end, where there is one.
+fn line_end(bytes: &[u8]) -> Option<usize>
+    ensures { result ≡ position (λ byte. byte == 10) bytes.now }
 {
-    for i in start..file.len() {
-        if file[i] == 10 {
-            return i;
-        }
-    }
-    file.len()
+    bytes.iter().position(|byte| *byte == 10)
 }
 
 // The line at the cursor. Bytes that no line end follows have none of the forms.
@@ -115,15 +83,16 @@ pub fn next_line(file: &[u8], cursor: Cursor) -> Step
     ensures further { (cursor.at < result.rest.at) × (result.rest.at ≤ length file.now) }
 {
     let start = cursor.at;
-    let stop = line_end(file, start);
-    if file.len() <= stop {
-        return Step {
+    match line_end(&file[start..]) {
+        Some(length) => Step {
+            line: read_line(&file[start..start + length]),
+            rest: Cursor {
+                at: start + length + 1,
+            },
+        },
+        None => Step {
             line: Line::Other,
-            rest: Cursor { at: stop },
-        };
-    }
-    Step {
-        line: read_line(&file[start..stop]),
-        rest: Cursor { at: stop + 1 },
+            rest: Cursor { at: file.len() },
+        },
     }
 }

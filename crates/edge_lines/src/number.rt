@@ -1,9 +1,9 @@
 // A decimal number at a cursor, of any length.
-ghost use Rattle.std.specs.Prelude.{◌≡◌, ◌≤◌, ◌<◌, drop};
+ghost use Rattle.std.specs.Prelude.{◌≡◌, ◌≤◌, ◌<◌, false, MatchOption, drop};
 ghost use Rattle.searches.specs.Ordering.{at};
 ghost use Rattle.wording.specs.Decimal as decimal;
 ghost use Rattle.wording.specs.Reading.{front, behind};
-ghost use Rattle.edge_lines.specs.Reading.{is_numeral, appended, capped};
+ghost use Rattle.edge_lines.specs.Reading.{is_numeral, appended, NumberOf};
 
 use crate::Cursor;
 use fields::field::byte_at;
@@ -14,11 +14,10 @@ const MOST: u64 = 10000000000000000000;
 // A tenth of it.
 const TENTH: u64 = 1000000000000000000;
 
-// A number, whether it has digits and no leading zero, and where its digits end.
+// A number, which has digits and no leading zero, and where the digits end.
 #[derive(Clone, Copy)]
 pub struct Number {
-    pub value: u64,
-    pub sound: bool,
+    pub value: Option<u64>,
     pub rest: Cursor,
 }
 
@@ -42,10 +41,9 @@ fn append(x: u64, byte: u8) -> u64
     }
 }
 
-// The number at the cursor. Where no digit stands there it is 0, and not sound.
+// The number at the cursor, and where the digits there end, whether they are a number or not.
 pub fn read_number(line: &[u8], cursor: Cursor) -> Number
-    ensures value { result.value ≡ capped (decimal.value (front decimal.is_digit (drop cursor.at line.now))) }
-    ensures sound { result.sound ≡ is_numeral (front decimal.is_digit (drop cursor.at line.now)) }
+    ensures value { MatchOption result.value (is_numeral (front decimal.is_digit (drop cursor.at line.now)) ≡ false) (NumberOf (front decimal.is_digit (drop cursor.at line.now))) }
     ensures rest { drop result.rest.at line.now ≡ behind decimal.is_digit (drop cursor.at line.now) }
 {
     let start = cursor.at;
@@ -57,9 +55,9 @@ pub fn read_number(line: &[u8], cursor: Cursor) -> Number
     }
     let count = end - start;
     let unpadded = byte_at(line, start) != 48;
+    let sound = (0 < count) & (unpadded | (count == 1));
     Number {
-        value,
-        sound: (0 < count) & (unpadded | (count == 1)),
+        value: if sound { Some(value) } else { None },
         rest: Cursor { at: end },
     }
 }

@@ -3,12 +3,12 @@
 --   replayable                        an ordering can be replayed on empty labels, without running values and weights
 --   fault_there, fault_judged         where the replay stops there is a violation, and the first one is judge's verdict
 --   stopped_fails, ended_passes, whole_ended, along_ended, whole_filled, filled_carried   what extend answers and leaves
---   moment_refused, moment_stopped, moment_ended   what after hands back
+--   moment_refused, moment_stopped   no moment where the ordering is refused or the replay stops;   ended_pass, moment_ended   and at its end the moment
 --   judge_asked_*, carry_on_asked_*    the answers of the calls, and that the graph is valid, from the checks' answer
 -- Assumes nothing.
 use mathlib.Core.Path.{◌≡◌, refl, sym, ap, ap₂, ◌∙◌, subst}
 use mathlib.Core.Bool.{Bool, true, false, cond, not}
-use mathlib.Core.List.{List, [], ◌∷◌, ◌++◌, map, append-nil, append_assoc}
+use mathlib.Core.List.{List, [], ◌∷◌, ◌++◌, append-nil, append_assoc}
 use mathlib.Core.Option.{Option, none, some}
 use Prim.Native.Nat.{ℕ, ◌+◌, ◌-◌, ◌≤◌, ◌<◌}
 use native.Mathlib.Omega.{arith}
@@ -40,7 +40,6 @@ use Rattle.searches.proofs.NoneBarred.{judge_alike, carry_on_alike}
 use Rattle.searches.proofs.Marks.{valid_both_ways}
 use Rattle.checks.proofs.Tried.{tried_first, refused_before}
 use Rattle.lookup.proofs.Symmetry.{rows_within}
-use Rattle.labels.specs.Weights.{weight_of}
 use Rattle.labels.specs.Words.{Weighed}
 use Rattle.lookup.specs.Columns.{Transposed}
 use Rattle.steps.specs.Steps.{whole, AreVertices, labels_after, smallest_after, largest_after, placed_after, free_after, stops_at, Replayable}
@@ -51,7 +50,7 @@ use Rattle.filling.proofs.Growing.{along_start, along_same}
 use Rattle.steps.proofs.Representation.{free_size, whole_unbarred, whole_inside, whole_count}
 use Rattle.engine.specs.declared.after.Moment.{Moment}
 use Rattle.engine.specs.Lists.{Judgeable, Extendable}
-use Rattle.engine.specs.Moments.{no_moment, moment_of, moment_after}
+use Rattle.engine.specs.Moments.{IsMoment}
 use Rattle.engine.proofs.Judging.{first_before, judge_fails_words, judge_passes_words}
 use Rattle.engine.proofs.Filling.{carry_fills}
 
@@ -226,15 +225,11 @@ module _ (kind : ℕ) (mark : Mark) (rows : List ℕ) (barred : ℕ) (w : List �
       let x = answers.judged_kept kind mark rows barred w a in
       (record { small = valid_small kind mark rows (answers.valid_graph kind mark rows barred x.0); transpose = transpose; ordering = x.1.ordering; stays = x.1.stays }, sym (answers.judge_accepted kind mark rows barred w a))
 
-  -- ---- what `after` hands back
+  -- ---- whether `after` hands back a moment, and which
 
-  pub moment_none : {r : Moment} → r ≡ no_moment → false ≡ is_pass (judge_barring kind mark rows barred w) → r ≡ moment_after kind mark rows barred w
-  unfolding moment_after
-  moment_none is fails = is ∙ ap (λ (b : Bool). cond b (moment_of (search_of kind) rows barred w) no_moment) fails
-
-  pub moment_refused : {r : Moment} → r ≡ no_moment → (q : ℕ) → some q ≡ first_refusal (judge_tests_barring kind mark rows barred w) → r ≡ moment_after kind mark rows barred w
+  pub moment_refused : (q : ℕ) → some q ≡ first_refusal (judge_tests_barring kind mark rows barred w) → false ≡ is_pass (judge_barring kind mark rows barred w)
   unfolding is_pass
-  moment_refused is q e = moment_none is (ap is_pass (judge_asked_refused q e))
+  moment_refused q e = ap is_pass (judge_asked_refused q e)
 
   -- an ordering that was placed again up to `count`
   module _ (accepted : none ≡ first_refusal (judge_tests_barring kind mark rows barred w)) {columns : List ℕ} (transpose : Transposed rows columns)
@@ -242,27 +237,25 @@ module _ (kind : ℕ) (mark : Mark) (rows : List ℕ) (barred : ℕ) (w : List �
     asked : Judgeable rows columns barred w (length w) × (judge_without (search_of kind) (arcs rows) (length rows) (unbarred barred) w (length w) ≡ judge_barring kind mark rows barred w)
     asked = judge_asked_accepted accepted transpose
 
-    pub moment_stopped : {r : Moment} → r ≡ no_moment → count < length w → r ≡ moment_after kind mark rows barred w
-    moment_stopped is l =
-        moment_none is
-        (sym (stopped_fails rows barred w (length w) asked.0 (search_of kind) count stops (labels_after rows taking w count) (free_after taking w count) l refl refl)
-        ∙ ap is_pass asked.1)
+    pub moment_stopped : count < length w → false ≡ is_pass (judge_barring kind mark rows barred w)
+    moment_stopped l =
+        sym (stopped_fails rows barred w (length w) asked.0 (search_of kind) count stops (labels_after rows taking w count) (free_after taking w count) l refl refl)
+        ∙ ap is_pass asked.1
 
-    pub moment_ended : {free : ℕ} {labels weights : List ℕ} → length w ≤ count → free ≡ free_after taking w count → labels ≡ labels_after rows taking w count
-        → Weighed (search_of kind) labels weights → record { passes = true; free = free; labels = labels; weights = weights } ≡ moment_after kind mark rows barred w
-    unfolding moment_after moment_of is_pass
-    moment_ended {free} {labels} {weights} l at-free at-labels weighed =
-        let whole : count ≡ length w = omega (arith, stops, (first (length w) (stops_at (search_of kind) rows taking w)).within) in
-        let passing : true ≡ is_pass (judge_barring kind mark rows barred w) =
-        ap is_pass (sym (ended_passes rows barred w (length w) asked.0 (search_of kind) count stops l) ∙ asked.1)
-        in
-        ap (λ (ws : List ℕ). handed free labels ws) weighed.same
-        ∙ ap₂ (λ (f : ℕ) (ls : List ℕ). handed f ls (map (weight_of (search_of kind)) ls)) at-free at-labels
-        ∙ ap (λ (j : ℕ). handed (free_after taking w j) (labels_after rows taking w j) (map (weight_of (search_of kind)) (labels_after rows taking w j))) whole
-        ∙ ap (λ (b : Bool). cond b (moment_of (search_of kind) rows barred w) no_moment) passing
-      where
-        handed : ℕ → List ℕ → List ℕ → Moment
-        handed f ls ws = record { passes = true; free = f; labels = ls; weights = ws }
+    module _ (l : length w ≤ count) where
+      pub ended_pass : true ≡ is_pass (judge_barring kind mark rows barred w)
+      unfolding is_pass
+      ended_pass = ap is_pass (sym (ended_passes rows barred w (length w) asked.0 (search_of kind) count stops l) ∙ asked.1)
+
+      pub moment_ended : {m : Moment} → m.free ≡ free_after taking w count → m.labels.kind.0 ≡ kind → m.labels.words ≡ labels_after rows taking w count
+          → IsMoment kind rows barred w m
+      moment_ended at-free of-kind at-words =
+          let whole : count ≡ length w = omega (arith, stops, (first (length w) (stops_at (search_of kind) rows taking w)).within) in
+          record {
+            free = at-free ∙ ap (λ (j : ℕ). free_after taking w j) whole;
+            of_kind = of-kind;
+            words = at-words ∙ ap (λ (j : ℕ). labels_after rows taking w j) whole;
+          }
 
 module _ (kind : ℕ) (mark : Mark) (rows : List ℕ) (barred : ℕ) (t out : List ℕ) (k : ℕ) where
   abbrev verdict : Verdict

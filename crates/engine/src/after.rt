@@ -1,68 +1,39 @@
-// The unplaced vertices, the labels and their weights after an ordering, for a caller that continues it.
-ghost use Rattle.std.specs.Prelude.{◌≡◌};
-ghost use Rattle.engine.specs.Moments.{no_moment, moment_after};
+// The unplaced vertices and the labels after an ordering, for a caller that continues it.
+ghost use Rattle.std.specs.Prelude.{◌≡◌, is_some, IfSome};
+ghost use Rattle.searches.specs.Answer.{is_pass, judge_barring};
+ghost use Rattle.engine.specs.Moments.{IsMoment};
 
-use searches::{Kind, Mark, Outcome};
+use labels::Labels;
+use lookup::graph::Rows;
+use searches::{Kind, Mark};
+use steps::replay::replay;
 
-// Whether judge passes an ordering, and the unplaced vertices, the labels and their weights after it; where it does not pass, no vertex, empty labels
-// and no weight.
+// The unplaced vertices after an ordering, and the labels with what is kept beside them.
 #[derive(Clone, Copy)]
 pub struct Moment {
-    pub passes: bool,
     pub free: u64,
-    pub labels: [u64; 64],
-    pub weights: [u64; 64],
+    pub labels: Labels,
 }
 
-// The moment of an ordering that does not pass.
-pub fn no_moment() -> Moment
-    ensures { result ≡ no_moment }
+// The moment after an ordering, for a caller that continues it; none where judge does not pass it. It is checked and replayed once. Alters nothing.
+pub fn after(kind: Kind, mark: Mark, rows: &[u64], barred: u64, ordering: &[u8]) -> Option<Moment>
+    ensures passes { is_some result ≡ is_pass (judge_barring kind.0 mark rows.now barred ordering.now) }
+    ensures moment { IfSome result (λ moment. IsMoment kind.0 rows.now barred ordering.now moment) }
 {
-    let labels = [0u64; 64];
-    let weights = [0u64; 64];
-    Moment {
-        passes: false,
-        free: 0,
-        labels,
-        weights,
-    }
-}
-
-// Judges an ordering for a caller that continues it: it is checked and replayed once. Alters nothing.
-pub fn after(kind: Kind, mark: Mark, rows: &[u64], barred: u64, ordering: &[u8]) -> Moment
-    ensures { result ≡ moment_after kind.0 mark rows.now barred ordering.now }
-{
-    let mut columns = [0u64; 64];
-    let mut labels = [0u64; 64];
-    let mut smallest = [64u8; 64];
-    let mut largest = [0u8; 64];
-    let mut weights = [0u64; 64];
-    let checked = checks::judge_refusal(kind, mark, rows, barred, ordering);
-    if let Outcome::Refused(_) = checked {
-        return no_moment();
-    }
+    checks::judge_refusal(kind, mark, rows, barred, ordering).ok()?;
     let n = rows.len();
     let k = ordering.len();
+    let mut columns = [0u64; 64];
     lookup::columns::columns_of(mark, rows, &mut columns);
-    let replayed = steps::replay::replay(
-        kind,
+    let graph = Rows {
         rows,
-        &columns[..n],
-        barred,
-        ordering,
-        k,
-        &mut labels,
-        &mut smallest,
-        &mut largest,
-        &mut weights,
-    );
+        columns: &columns[..n],
+    };
+    let mut labels = Labels::empty(kind);
+    let replayed = replay(graph, barred, ordering, k, &mut labels);
     if replayed.count < k {
-        return no_moment();
+        return None;
     }
-    Moment {
-        passes: true,
-        free: replayed.stage.free,
-        labels,
-        weights,
-    }
+    let free = replayed.stage.free;
+    Some(Moment { free, labels })
 }

@@ -1,5 +1,5 @@
 // One field: four columns of a decimal number.
-ghost use Rattle.std.specs.Prelude.{◌≡◌, ◌<◌};
+ghost use Rattle.std.specs.Prelude.{◌≡◌, ◌<◌, MatchOption};
 ghost use Rattle.searches.specs.Ordering.{at};
 ghost use Rattle.fields.specs.Field.{ones, lead, digit_value, digits_at, field_at};
 
@@ -7,20 +7,18 @@ ghost use Rattle.fields.specs.Field.{ones, lead, digit_value, digits_at, field_a
 pub fn byte_at(bytes: &[u8], i: usize) -> u8
     ensures { result ≡ at bytes.now i }
 {
-    if i < bytes.len() { bytes[i] } else { 0 }
+    bytes.get(i).copied().unwrap_or(0)
 }
 
 // The digit that a byte is; 0 where it is none.
 fn digit(byte: u8) -> usize
     ensures { result ≡ digit_value byte }
 {
-    if byte < 48 {
-        return 0;
+    if byte.is_ascii_digit() {
+        (byte - 48) as usize
+    } else {
+        0
     }
-    if 57 < byte {
-        return 0;
-    }
-    (byte - 48) as usize
 }
 
 // A column before the last, with the number `y` from there to the left.
@@ -49,15 +47,15 @@ fn digits(bytes: &[u8], i: usize) -> usize
     1000 * a + 100 * b + 10 * c + d
 }
 
-// The number whose field stands in `bytes` from `i` on; 10000 where none does. No other number than the digits' has that field.
-pub fn field(bytes: &[u8], i: usize) -> usize
+// The number whose field stands in `bytes` from `i` on, if one does. No other number than the digits' has that field.
+pub fn field(bytes: &[u8], i: usize) -> Option<usize>
     requires { i < 1000000 }
-    ensures { result ≡ field_at bytes.now i }
+    ensures { MatchOption result (field_at bytes.now i ≡ 10000) (λ x. (x < 10000) × (x ≡ field_at bytes.now i)) }
 {
     let x = digits(bytes, i);
     let a = byte_at(bytes, i) == lead_of(x / 10 / 10 / 10);
     let b = byte_at(bytes, i + 1) == lead_of(x / 10 / 10);
     let c = byte_at(bytes, i + 2) == lead_of(x / 10);
     let d = byte_at(bytes, i + 3) == ones_of(x);
-    if (a & b) & (c & d) { x } else { 10000 }
+    if (a & b) & (c & d) { Some(x) } else { None }
 }

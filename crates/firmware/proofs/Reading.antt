@@ -1,6 +1,7 @@
 -- Rows read out of a plan's bytes.
 --   word_lower      one byte more below a word
---   Reading         the loop of `row_at`: the upper bytes of the row of u, from place b on, are read
+--   Reading         the upper bytes of the row of u, from place b on, are read;   reading_*   one after the other, down to its lowest
+--   row_of_word     the word of u, of eight bytes each, is its row
 --   Decoding        the loop of `decode`: the rows below u are written
 --   rows_count      a plan of m bytes holds m / 8 rows
 --   part_*          so many stand at the front of the array
@@ -13,8 +14,10 @@ use native.Mathlib.Numerals.{add-one}
 use native.Mathlib.Omega.{arith}
 use lib.Arith.{digits_lt}
 use lib.Dec.{lit<}
-use lib.ListN.{length, take, set, length-append, length-take, length-set}
-use lib.Seq.{take-suc-set}
+use lib.ListN.{length, get_or, take, drop, set, length-append, length-take, length-set}
+use lib.Seq.{take-suc-set, get_or-take, get_or-drop, drop-drop}
+use Rattle.std.specs.Simd.{first_chunks}
+use Rattle.std.specs.Int.{w64, from_le_bytes}
 use Rattle.firmware.specs.Plan.{byte_at, word_at, row_at, rows_below, plan_rows}
 
 pub word_lower : (m : ℕ) (plan : List ℕ) (i : ℕ) → word_at (suc m) plan i ≡ word_at m plan (suc i) * 256 + byte_at plan i
@@ -57,6 +60,34 @@ module _ (plan : List ℕ) (u : ℕ) where
         small = rw (more, pow-suc) (digits_lt r.small byte);
         read = rw (more, word_lower (8 - b) plan (8 * u + (b - 1)), above, ← r.read);
       }
+
+-- ---- the words of the bytes, eight bytes each
+
+word_of : (n k u : ℕ) (bytes none : List ℕ) → u < k → get_or (first_chunks n k bytes) u none ≡ take n (drop (n * u) bytes)
+word_of n zero u bytes none l = absurd (omega arith)
+word_of n (suc k) zero bytes none l = let front : 0 ≡ n * 0 = omega arith in ap (λ (i : ℕ). take n (drop i bytes)) front
+word_of n (suc k) (suc u) bytes none l =
+    let next : n + n * u ≡ n * suc u = omega arith in
+    word_of n k u (drop n bytes) none (omega arith) ∙ ap (λ (b : List ℕ). take n b) (drop-drop (n * u) n bytes) ∙ ap (λ (i : ℕ). take n (drop i bytes)) next
+
+byte_of : (plan : List ℕ) (u b : ℕ) → b < 8 → get_or (take 8 (drop (8 * u) plan)) b 0 ≡ byte_at plan (8 * u + b)
+byte_of plan u b l = get_or-take 8 (drop (8 * u) plan) b 0 l ∙ get_or-drop (8 * u) plan b 0
+
+pub row_of_word : (plan : List ℕ) {words : List (List ℕ)} (u : ℕ) (none : List ℕ) → words ≡ first_chunks 8 (length plan / 8) plan → u < length plan / 8
+    → from_le_bytes w64 (get_or words u none) ≡ row_at plan u
+unfolding row_at word_at
+row_of_word plan u none e l =
+    ap (λ (all : List (List ℕ)). from_le_bytes w64 (get_or all u none)) e
+    ∙ ap (λ (word : List ℕ). from_le_bytes w64 word) (word_of 8 (length plan / 8) u plan none l)
+    ∙ (let b0 = byte_of plan u 0 (lit< tt) in
+    let b1 = byte_of plan u 1 (lit< tt) in
+    let b2 = byte_of plan u 2 (lit< tt) in
+    let b3 = byte_of plan u 3 (lit< tt) in
+    let b4 = byte_of plan u 4 (lit< tt) in
+    let b5 = byte_of plan u 5 (lit< tt) in
+    let b6 = byte_of plan u 6 (lit< tt) in
+    let b7 = byte_of plan u 7 (lit< tt) in
+    omega arith)
 
 pub record Decoding (plan rows : List ℕ) (u : ℕ) : Type 0 where
   pub upto : u ≤ length plan / 8

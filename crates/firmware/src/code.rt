@@ -3,28 +3,28 @@ ghost use Rattle.std.specs.Prelude.{◌≡◌};
 ghost use Rattle.searches.specs.Answer.{verdict_of, refusal_of};
 ghost use Rattle.firmware.specs.Code.{code_of, number_of};
 
-use searches::{Judgement, Outcome};
+use searches::{Judgement, Refusal, Vertex};
 
 // 0 for a pass, a refusal's number, and a violation packed above all of these.
-pub fn code_of(judgement: Judgement) -> u32
+pub fn code_of(judgement: Result<Judgement<Vertex>, Refusal>) -> u32
     ensures { result ≡ code_of (verdict_of judgement) }
 {
     match judgement {
-        Judgement::Passes => 0,
-        Judgement::Fails(v) => 16777216
+        Ok(Judgement::Passes) => 0,
+        Ok(Judgement::Fails(v)) => 16777216
             + 65536 * (v.a.0 as u32)
             + 256 * (v.b.0 as u32)
             + (v.c.0 as u32),
-        Judgement::Refused(refusal) => checks::number::number(refusal),
+        Err(refusal) => checks::number::number(refusal),
     }
 }
 
 // 0 where nothing was refused, else the refusal's number.
-pub fn number_of(outcome: Outcome) -> u32
+pub fn number_of(outcome: Result<(), Refusal>) -> u32
     ensures { result ≡ number_of (refusal_of outcome) }
 {
     match outcome {
-        Outcome::Done => 0,
-        Outcome::Refused(refusal) => checks::number::number(refusal),
+        Ok(()) => 0,
+        Err(refusal) => checks::number::number(refusal),
     }
 }

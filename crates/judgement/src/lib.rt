@@ -8,18 +8,23 @@ ghost use Rattle.sheet.specs.Sheet.{stopped_in};
 ghost use Rattle.judgement.specs.Judged.{judged_line, judged_lines, judgement, judgement_in, judgement_length, ReadInto};
 
 use fields::write;
-use searches::{Judgement, Kind, Mark, Outcome};
+use searches::{Judgement, Kind, Mark, Refusal, Vertex};
 use sheet::read::read;
 
 // Writes the line of one kind from `at` on, and answers where it ends.
-fn judged_line(output: &mut [u8], at: usize, kind: u8, judgement: Judgement) -> usize
+fn judged_line(
+    output: &mut [u8],
+    at: usize,
+    kind: u8,
+    judgement: Result<Judgement<Vertex>, Refusal>,
+) -> usize
     requires { (at < 150) × (at + 21 ≤ length output.old) }
     ensures output { output.new ≡ sets output.old at (judged_line kind (verdict_of judgement)) }
     ensures at { result ≡ at + length (judged_line kind (verdict_of judgement)) }
 {
     match judgement {
-        Judgement::Passes => write::line_of_two(output, at, kind as usize, 1),
-        Judgement::Fails(v) => write::line_of_five(
+        Ok(Judgement::Passes) => write::line_of_two(output, at, kind as usize, 1),
+        Ok(Judgement::Fails(v)) => write::line_of_five(
             output,
             at,
             kind as usize,
@@ -28,11 +33,7 @@ fn judged_line(output: &mut [u8], at: usize, kind: u8, judgement: Judgement) -> 
             v.b.0 as usize,
             v.c.0 as usize,
         ),
-        Judgement::Refused(refusal) => write::line_of_one(
-            output,
-            at,
-            checks::number::number(refusal) as usize,
-        ),
+        Err(refusal) => write::line_of_one(output, at, checks::number::number(refusal) as usize),
     }
 }
 
@@ -65,20 +66,22 @@ fn write_judgement(sheet: &[u8], output: &mut [u8]) -> Judged
     ensures length { result.length ≡ length (judgement sheet.now) }
     ensures line { result.line ≡ stopped_in sheet.now }
 {
-    let reading = read(sheet);
-    let held = reading.held;
-    let outcome = reading.outcome;
-    let line = reading.line;
-    if let Outcome::Refused(refusal) = outcome {
-        let length = write::line_of_one(output, 0, checks::number::number(refusal) as usize);
-        return Judged { length, line };
+    match read(sheet) {
+        Ok(held) => {
+            let rows = held.rows;
+            let ordering = held.ordering;
+            let length = judged_lines(output, &rows[..held.n], &ordering[..held.k]);
+            Judged { length, line: 0 }
+        }
+        Err(unread) => {
+            let number = checks::number::number(unread.refusal);
+            let length = write::line_of_one(output, 0, number as usize);
+            Judged {
+                length,
+                line: unread.line,
+            }
+        }
     }
-    let n = held.n;
-    let rows = held.rows;
-    let k = held.k;
-    let ordering = held.ordering;
-    let length = judged_lines(output, &rows[..n], &ordering[..k]);
-    Judged { length, line }
 }
 
 // Writes the judgement of a sheet, any bytes, to the front of `output` and answers its length. An `output` of less than 147 bytes stays as
@@ -87,7 +90,8 @@ pub fn judge(sheet: &[u8], output: &mut [u8]) -> usize
     ensures output { output.new ≡ judgement_in sheet.now output.old }
     ensures length { result ≡ judgement_length sheet.now output.old }
 {
-    if output.len() < 147 {
+    let short = output.len() < 147;
+    if short {
         return 0;
     }
     let judged = write_judgement(sheet, output);
@@ -101,7 +105,8 @@ fn judge_first(bytes: &[u8], count: usize, output: &mut [u8]) -> Judged
     ensures length { result.length ≡ length (judgement (take count bytes.now)) }
     ensures line { result.line ≡ stopped_in (take count bytes.now) }
 {
-    if bytes.len() <= count {
+    let all = bytes.len() <= count;
+    if all {
         return write_judgement(bytes, output);
     }
     write_judgement(&bytes[..count], output)

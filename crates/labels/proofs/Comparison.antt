@@ -2,8 +2,10 @@
 --   empty_word                              a word has no member exactly when it is 0
 --   bfs_words, lex_dfs_words, mns_words, generic_words   BFS by the first positions, and the others: what is compared is what ahead_in says
 --   ranked_words, mns_compared                   what is told of these tests is what compared_in says
+--   equals_ahead, equals_level                   an answer is `Ahead`, or `Level`, exactly when it says that the first is ahead, or that the two are level
 --   ahead_answered, level_answered               what that says of who is ahead, and of who is level
 --   unexcused_*                             likewise for unexcused_in
+--   is_kind, no_kind, other_kind                  what the test for a kind byte says, and the test for another one
 --   of_kind, search_of_other, search_of_mns   from a kind byte to its search
 -- Assumes nothing.
 use mathlib.Core.Path.{◌≡◌, refl, sym, ap, ap₂, ◌∙◌, subst}
@@ -11,16 +13,19 @@ use mathlib.Core.Bool.{Bool, true, false, not, ◌&&◌}
 use mathlib.Core.Logic.{◌≢◌}
 use Prim.Native.Nat.{ℕ, zero, suc, ◌<◌, ◌^◌}
 use native.Mathlib.Omega.{arith}
+use denote.Enum.Bare.{sameb}
 use lib.Dec.{T, ltb, leb, eqb, eqb→eq, eqb_refl, not_T, T_not}
 use Rattle.bitset.specs.Below.{any_below, first_below, last_below, differ, within, only}
 use Rattle.bitset.specs.Word.{member, difference, from_up}
-use Rattle.bitset.proofs.Tests.{and_true, same_test}
+use Rattle.bitset.proofs.Tests.{and_true, same_test, not_true, said_true, said_false}
 use Rattle.bitset.proofs.Below.{any_out, any_at, any_same, first_same}
 use Rattle.bitset.proofs.Word as word
 use Rattle.searches.specs.Kind.{Search, generic, bfs, dfs, lex_bfs, lex_dfs, mns, mcs, search_of}
 use Rattle.searches.specs.Label.{empty, settled, outranks}
 use Rattle.searches.specs.Comparison.{told_by, is_ahead, is_level}
 use Rattle.searches.specs.Violation.{condition, meets}
+use Rattle.searches.specs.declared.Comparison.{Comparison}
+use Rattle.searches.specs.contracts.Comparison.{the_type}
 use Rattle.searches.proofs.Comparing.{ahead_told, level_told}
 use Rattle.searches.proofs.ByNumbers as numbers
 use Rattle.searches.proofs.Unexcused as unexcused
@@ -72,6 +77,22 @@ pub mns_compared : (c b : ℕ) {covers covered : Bool} → covers ≡ within 64 
 unfolding compared_in
 mns_compared c b is is' = numbers.mns_compared 64 (member c) (member b) is is'
 
+-- an answer, compared with `Ahead`
+pub equals_ahead : (answer : Comparison) → sameb the_type answer Comparison.Ahead ≡ is_ahead answer
+unfolding is_ahead
+equals_ahead Comparison.Ahead = refl
+equals_ahead Comparison.Behind = refl
+equals_ahead Comparison.Level = refl
+equals_ahead Comparison.Neither = refl
+
+-- and with `Level`
+pub equals_level : (answer : Comparison) → sameb the_type answer Comparison.Level ≡ is_level answer
+unfolding is_level
+equals_level Comparison.Ahead = refl
+equals_level Comparison.Behind = refl
+equals_level Comparison.Level = refl
+equals_level Comparison.Neither = refl
+
 -- the answer that the first is ahead
 pub ahead_answered : (s : Search) (c b : ℕ) → is_ahead (compared_in s c b) ≡ ahead_in s c b
 unfolding compared_in ahead_in
@@ -83,6 +104,15 @@ unfolding compared_in ahead_in
 level_answered s other c b = level_told s 64 (member c) (member b) other
 
 -- ---- the kind byte
+
+pub is_kind : (kind k : ℕ) {r : Bool} → r ≡ eqb kind k → r ≡ true → kind ≡ k
+is_kind kind k e t = eqb→eq kind k (said_true (eqb kind k) e t)
+
+pub no_kind : (kind k : ℕ) {r : Bool} → r ≡ eqb kind k → r ≡ false → kind ≢ k
+no_kind kind k e f is = said_false (eqb kind k) e f (subst (λ (x : ℕ). T (eqb kind x)) is (eqb_refl kind))
+
+pub other_kind : (kind k : ℕ) {r : Bool} → r ≡ not (eqb kind k) → r ≡ true → kind ≢ k
+other_kind kind k e t = no_kind kind k refl (not_true (eqb kind k) (sym e ∙ t))
 
 pub of_kind : {kind k : ℕ} {r : Bool} (f : Search → Bool) → kind ≡ k → r ≡ f (search_of k) → r ≡ f (search_of kind)
 of_kind {kind} {k} {r} f e h = subst (λ (x : ℕ). r ≡ f (search_of x)) (sym e) h

@@ -10,6 +10,7 @@
 --   Spreading put row n before kept rest   `rest` is what is left of `row`: it makes of `kept` what `row` makes of `before`
 --   spread_start, spread_next, spread_due, spread_end   the spreading begins, goes on, what is due, and the end
 --   SpreadingAll p row labels₀ smallest₀ largest₀ labels smallest largest rest   labels and running values together: position p is spread
+--   first_inside      the number that a row goes on with is the number of a vertex
 --   member_joined     what is in a label that a position may join
 -- Assumes nothing.
 use mathlib.Core.Path.{◌≡◌, refl, sym, ap, ap₂, ◌∙◌, subst}
@@ -21,9 +22,10 @@ use native.Mathlib.Omega.{arith}
 use lib.Dec.{T, eqb}
 use lib.ListN.{length, get_or, set, length-set}
 use lib.Seq.{get_or-set_same, get_or-set_other, set-get_or, set_comm}
+use Rattle.bitset.specs.Below.{first_below}
 use Rattle.bitset.specs.Word.{member, removed}
 use Rattle.bitset.proofs.Tests.{cond_yes, cond_no, below_suc, three_ways}
-use Rattle.bitset.proofs.Scan.{removed_in, removed_other}
+use Rattle.bitset.proofs.Scan.{first_member, removed_in, removed_other}
 use Rattle.bitset.proofs.Joining.{joined_if}
 use Rattle.bitset.proofs.Word as word
 use Rattle.labels.specs.Words.{label_with, smallest_with, largest_with, changed_by, spread_by, joined_in}
@@ -167,3 +169,6 @@ SpreadingAll p row labels₀ smallest₀ largest₀ labels smallest largest rest
 pub member_joined : (row q v x : ℕ) → q < 64 → (p : ℕ) → member (joined_in row q v x) p ≡ ((eqb q p && member row v) || member x p)
 unfolding changed_by
 member_joined row q v x l p = joined_if (member row v) x l p
+
+pub first_inside : (row : ℕ) → row < 2 ^ 64 → 0 < row → first_below 64 (member row) < 64
+first_inside row word some = (first_member row word some).0

@@ -13,12 +13,10 @@
 use Rattle.std.specs.Prelude.{ℕ, zero, suc, ◌-◌, ◌<◌, ◌≡◌, cond, List, T, eqb, length, get_or}
 use Rattle.std.proofs.Math.Option.{Option, none, some}
 use Rattle.bitset.specs.Below.{count_below}
-use Rattle.bitset.specs.Word.{member, inserted, common}
+use Rattle.bitset.specs.Word.{member, inserted}
 use Rattle.searches.specs.Kind.{Search, generic, bfs, dfs, lex_bfs, lex_dfs, mns, mcs}
 use Rattle.searches.specs.Running.{smallest_in, largest_in}
-
-unfoldable pub tally : List ℕ → ℕ → ℕ → ℕ
-tally columns placed v = count_below 64 (member (common (get_or columns v 0) placed))
+unfoldable pub use Rattle.lookup.specs.Columns.{tally}
 
 unfoldable pub smallest_byte : Option ℕ → ℕ
 smallest_byte none = 64

@@ -1,24 +1,16 @@
 // The weight of a label: one number, so that in every search but MNS the vertex with the greater one is ahead.
 ghost use Rattle.std.specs.Prelude.{◌≡◌};
 ghost use Rattle.searches.specs.Kind.{search_of};
-ghost use Rattle.labels.specs.Weights.{tally, weight_of, Weighable};
+ghost use Rattle.labels.specs.Weights.{weight_of, Weighable};
 
+use lookup::graph::Graph;
 use searches::{Kind, Position, Vertex};
-
-// How many ones are in row AND placed mask. The row is that of the transposed graph, the column of `vertex`: the vertices that lead to it.
-fn count(columns: &[u64], placed: u64, vertex: Vertex) -> usize
-    ensures { result ≡ tally columns.now placed vertex.0 }
-{
-    let v = vertex.0 as usize;
-    let row = if v < columns.len() { columns[v] } else { 0 };
-    bitset::size(bitset::common(row, placed))
-}
 
 // The weight of the label of `vertex`, into which `position` was just put. BFS and DFS take it from the running values `smallest` and `largest`, MCS
 // counts in the columns, and LexBFS puts the position into the weight that there was, counted from the other end: the earlier one weighs more.
-pub fn weigh(
+pub fn weigh<G: Graph>(
     kind: Kind,
-    columns: &[u64],
+    graph: G,
     placed: u64,
     vertex: Vertex,
     position: Position,
@@ -27,28 +19,27 @@ pub fn weigh(
     largest: u8,
     weight: u64,
 ) -> u64
-    requires { Weighable (search_of kind.0) columns.now placed vertex.0 position.0 label smallest largest weight }
+    requires { Weighable (search_of kind.0) (G.columns graph) placed vertex.0 position.0 label smallest largest weight }
     ensures { result ≡ weight_of (search_of kind.0) label }
 {
-    let search = kind.0;
     let p = position.0;
-    if search == Kind::BFS.0 {
+    if kind == Kind::BFS {
         return 64 - smallest as u64;
     }
-    if search == Kind::DFS.0 {
+    if kind == Kind::DFS {
         return largest as u64;
     }
-    if search == Kind::LEX_BFS.0 {
+    if kind == Kind::LEX_BFS {
         return bitset::insert(weight, 63 - p);
     }
-    if search == Kind::LEX_DFS.0 {
+    if kind == Kind::LEX_DFS {
         return label;
     }
-    if search == Kind::MNS.0 {
+    if kind == Kind::MNS {
         return label;
     }
-    if search == Kind::MCS.0 {
-        return count(columns, placed, vertex) as u64;
+    if kind == Kind::MCS {
+        return graph.count(placed, vertex, label) as u64;
     }
     1
 }

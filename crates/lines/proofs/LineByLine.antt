@@ -1,8 +1,11 @@
 -- The lines of a sheet, each parsed from where it begins.
 --   Chosen test x y z        z is the choice between x and y by the test;   chosen_first, chosen_second   which one, where the test is known
+--   chosen_out               where the test does not hold, it is the second
 --   joined_as                the two rows of a link, written one after the other
 --   Headed, Linked           line 1, a link's line is chosen by the test of its fields and its last byte
 --   headed_read, linked_read, placed_read     the fields and the last byte that were read are those of the line
+--   head_there, place_there   the test on line 1, on a place's line holds where the fields stand there and the line ends
+--   head_missing, link_missing, place_missing     where a field is missing or the line does not end, nothing is read
 --   headed_by, linked_by_lem     what line 1, a link's line leaves, by its parts
 --   numbers_out              the test on line 1: its numbers are below 10000, and it ends
 --   head_small, link_small   the numbers of line 1 have four columns; the points of a link fit the rows
@@ -13,8 +16,8 @@ use mathlib.Core.Path.{◌≡◌, refl, sym, ap, ap₂, ◌∙◌, subst}
 use mathlib.Core.Bool.{Bool, true, false, cond, not, ◌&&◌, ◌||◌}
 use mathlib.Core.List.{List}
 use native.Mathlib.Omega.{arith}
-use borrow.Author.Tests.{lt-leb, ne_eqb}
-use lib.Dec.{T, ltb, leb, eqb, ltb→lt}
+use borrow.Author.Tests.{lt-ltb, lt-leb, eq-eqb, ne_eqb}
+use lib.Dec.{T, ltb, leb, eqb, ltb→lt, eqb→eq}
 use lib.ListN.{set}
 use Rattle.bitset.specs.Word.{inserted}
 use Rattle.bitset.proofs.Tests.{and_out}
@@ -33,6 +36,10 @@ chosen_first {x = x} {y = y} c holds = sym (ap (λ (t : Bool). cond t x y) holds
 pub chosen_second : {A : Type 0} {test : Bool} {x y chosen : A} → Chosen test x y chosen → test ≡ false → y ≡ chosen
 chosen_second {x = x} {y = y} c fails = sym (ap (λ (t : Bool). cond t x y) fails) ∙ c.same
 
+chosen_out : {A : Type 0} {test : Bool} {x y chosen : A} → Chosen test x y chosen → (T test → ⊥) → y ≡ chosen
+chosen_out {test = true} c out = absurd (out tt)
+chosen_out {test = false} c out = c.same
+
 -- the two rows of a link, written one after the other
 pub joined_as : (u v : ℕ) (rows : List ℕ) {x y : ℕ} → x ≡ inserted (at rows u) v → y ≡ inserted (at (set rows u x) v) u → set (set rows u x) v y ≡ joined u v rows
 unfolding joined
@@ -50,6 +57,16 @@ module _ (b : List ℕ) (i : ℕ) (p : Parsed) where
   headed_read {n} {m} {k} {e} at_n at-m at-k at_e =
       let line : ℕ → ℕ → ℕ → ℕ → Parsed = λ x y z w. cond (((ltb x 10000 && ltb y 10000) && ltb z 10000) && eqb w 10) (begun x y z p) (halted p) in
       record { same = ap₂ (λ (x y : ℕ). line x y k e) at_n at-m ∙ ap₂ (λ (z w : ℕ). line (field_at b i) (field_at b (i + 4)) z w) at-k at_e }
+
+  pub head_missing : (field_at b i < 10000 → field_at b (i + 4) < 10000 → field_at b (i + 8) < 10000 → at b (i + 12) ≡ 10 → ⊥) → halted p ≡ head_read b i p
+  head_missing out = chosen_out (headed_read refl refl refl refl) (λ t.
+      let n = field_at b i in
+      let m = field_at b (i + 4) in
+      let k = field_at b (i + 8) in
+      let all = and_out ((ltb n 10000 && ltb m 10000) && ltb k 10000) (eqb (at b (i + 12)) 10) t in
+      let three = and_out (ltb n 10000 && ltb m 10000) (ltb k 10000) all.0 in
+      let two = and_out (ltb n 10000) (ltb m 10000) three.0 in
+      out (ltb→lt n 10000 two.0) (ltb→lt m 10000 two.1) (ltb→lt k 10000 three.1) (eqb→eq (at b (i + 12)) 10 all.1))
 
   -- line 1 with so many steps behind it
   abbrev begun_with : ℕ → ℕ → ℕ → ℕ → Parsed
@@ -78,6 +95,16 @@ module _ (b : List ℕ) (i : ℕ) (p : Parsed) where
       let line : ℕ → ℕ → ℕ → Parsed =
       λ x y z. cond (((ltb x y && ltb y p.content.n) && eqb z 10) && is_below p.content.from p.content.to x y) (link_added x y p) (halted p) in
       record { same = ap₂ (λ (x y : ℕ). line x y e) at_u at_v ∙ ap (λ (z : ℕ). line (field_at b i) (field_at b (i + 4)) z) at_e }
+
+  pub link_missing : p.content.n ≤ 64 → (field_at b i < 10000 → field_at b (i + 4) < 10000 → ⊥) → halted p ≡ link_read b i p
+  link_missing few out = chosen_out (linked_read refl refl refl) (λ t.
+      let u = field_at b i in
+      let v = field_at b (i + 4) in
+      let line = (and_out ((ltb u v && ltb v p.content.n) && eqb (at b (i + 4 + 4)) 10) (is_below p.content.from p.content.to u v) t).0 in
+      let both = and_out (ltb u v) (ltb v p.content.n) (and_out (ltb u v && ltb v p.content.n) (eqb (at b (i + 4 + 4)) 10) line).0 in
+      let first = ltb→lt u v both.0 in
+      let second = ltb→lt v p.content.n both.1 in
+      out (omega arith) (omega arith))
 
   -- a link with the rows that it leaves
   abbrev grown_with : ℕ → ℕ → List ℕ → Parsed
@@ -111,6 +138,11 @@ module _ (b : List ℕ) (i : ℕ) (p : Parsed) where
   unfolding place_read
   placed_read at_v at_e = record { same = ap₂ (λ (x y : ℕ). cond (ltb x 10000 && eqb y 10) (place_added x p) (halted p)) at_v at_e }
 
+  pub place_missing : (field_at b i < 10000 → at b (i + 4) ≡ 10 → ⊥) → halted p ≡ place_read b i p
+  place_missing out = chosen_out (placed_read refl refl) (λ t.
+      let both = and_out (ltb (field_at b i) 10000) (eqb (at b (i + 4)) 10) t in
+      out (ltb→lt (field_at b i) 10000 both.0) (eqb→eq (at b (i + 4)) 10 both.1))
+
 -- ---- what the tests say
 
 -- the test on line 1: its numbers are below 10000, and it ends
@@ -119,6 +151,15 @@ numbers_out n m k ends t =
     let all = and_out ((ltb n 10000 && ltb m 10000) && ltb k 10000) ends t in
     let two = and_out (ltb n 10000 && ltb m 10000) (ltb k 10000) all.0 in
     (ltb→lt m 10000 (and_out (ltb n 10000) (ltb m 10000) two.0).1, ltb→lt k 10000 two.1, all.1)
+
+-- where the fields stand there and the line ends, line 1, a place's line has the form
+pub head_there : {n m k e : ℕ} → n < 10000 → m < 10000 → k < 10000 → e ≡ 10 → (((ltb n 10000 && ltb m 10000) && ltb k 10000) && eqb e 10) ≡ true
+head_there {n} {m} {k} {e} at_n at-m at-k at_e =
+    ap₂ (λ (x y : Bool). x && y)
+    (ap₂ (λ (x y : Bool). x && y) (ap₂ (λ (x y : Bool). x && y) (lt-ltb n 10000 at_n) (lt-ltb m 10000 at-m)) (lt-ltb k 10000 at-k)) (eq-eqb e 10 at_e)
+
+pub place_there : {v e : ℕ} → v < 10000 → e ≡ 10 → (ltb v 10000 && eqb e 10) ≡ true
+place_there {v} {e} at_v at_e = ap₂ (λ (x y : Bool). x && y) (lt-ltb v 10000 at_v) (eq-eqb e 10 at_e)
 
 -- the numbers of line 1 have four columns
 pub head_small : (n m k : ℕ) (ends : Bool) → (((ltb n 10000 && ltb m 10000) && ltb k 10000) && ends) ≡ true → (m < 10000) × (k < 10000)

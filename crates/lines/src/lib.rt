@@ -35,13 +35,10 @@ pub struct Parsed {
 fn halt(parsed: Parsed) -> Parsed
     ensures { result ≡ halted parsed }
 {
-    let content = parsed.content;
     Parsed {
-        good: parsed.good,
         sound: false,
         width: 0,
-        rest: parsed.rest,
-        content,
+        ..parsed
     }
 }
 
@@ -50,15 +47,14 @@ fn first_line(sheet: &[u8], at: usize, parsed: Parsed) -> Parsed
     requires { at < 900000 }
     ensures { result ≡ head_read sheet.now at parsed }
 {
-    let n = field(sheet, at);
-    let m = field(sheet, at + 4);
-    let k = field(sheet, at + 8);
-    let end = byte_at(sheet, at + 12);
-    if !((((n < 10000) & (m < 10000)) & (k < 10000)) & (end == 10)) {
+    let (Some(n), Some(m), Some(k), b'\n') = (
+        field(sheet, at),
+        field(sheet, at + 4),
+        field(sheet, at + 8),
+        byte_at(sheet, at + 12),
+    ) else {
         return halt(parsed);
-    }
-    let rows = parsed.content.rows;
-    let ordering = parsed.content.ordering;
+    };
     let content = Content {
         n,
         m,
@@ -66,8 +62,7 @@ fn first_line(sheet: &[u8], at: usize, parsed: Parsed) -> Parsed
         from: 0,
         to: 0,
         outside: false,
-        rows,
-        ordering,
+        ..parsed.content
     };
     let large = (64 < n) | (n < k);
     Parsed {
@@ -85,26 +80,29 @@ fn link_line(sheet: &[u8], at: usize, parsed: Parsed) -> Parsed
     ensures { result ≡ link_read sheet.now at parsed }
 {
     let content = parsed.content;
-    let u = field(sheet, at);
     let second = at + 4;
-    let v = field(sheet, second);
+    let (Some(u), Some(v)) = (field(sheet, at), field(sheet, second)) else {
+        return halt(parsed);
+    };
     let end = byte_at(sheet, second + 4);
     let line = ((u < v) & (v < content.n)) & (end == 10);
     let later = (content.from < u) | ((content.from == u) & (content.to < v));
     if !(line & later) {
         return halt(parsed);
     }
-    let mut joined = content;
-    joined.from = u;
-    joined.to = v;
+    let mut joined = Content {
+        from: u,
+        to: v,
+        ..content
+    };
     joined.rows[u] = bitset::insert(joined.rows[u], v);
     joined.rows[v] = bitset::insert(joined.rows[v], u);
     Parsed {
         good: parsed.good + 1,
         sound: true,
         width: 9,
-        rest: parsed.rest,
         content: joined,
+        ..parsed
     }
 }
 
@@ -114,21 +112,21 @@ fn place_line(sheet: &[u8], at: usize, parsed: Parsed) -> Parsed
     ensures { result ≡ place_read sheet.now at parsed }
 {
     let content = parsed.content;
-    let v = field(sheet, at);
-    let end = byte_at(sheet, at + 4);
-    if !((v < 10000) & (end == 10)) {
+    let (Some(v), b'\n') = (field(sheet, at), byte_at(sheet, at + 4)) else {
         return halt(parsed);
-    }
+    };
     let j = parsed.good - 1 - content.m;
-    let mut grown = content;
-    grown.outside = content.outside | (content.n <= v);
+    let mut grown = Content {
+        outside: content.outside | (content.n <= v),
+        ..content
+    };
     grown.ordering[j] = (v % 256) as u8;
     Parsed {
         good: parsed.good + 1,
         sound: true,
         width: 5,
-        rest: parsed.rest,
         content: grown,
+        ..parsed
     }
 }
 
@@ -136,13 +134,10 @@ fn place_line(sheet: &[u8], at: usize, parsed: Parsed) -> Parsed
 fn end(sheet: &[u8], at: usize, parsed: Parsed) -> Parsed
     ensures { result ≡ end_read sheet.now at parsed }
 {
-    let content = parsed.content;
     Parsed {
-        good: parsed.good,
         sound: sheet.len() == at,
         width: 0,
-        rest: parsed.rest,
-        content,
+        ..parsed
     }
 }
 

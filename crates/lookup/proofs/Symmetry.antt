@@ -2,11 +2,13 @@
 --   rows_within                    rows without a bit outside fit into a square
 --   Gathered rows columns set u    the set holds the numbers in which the first u rows and columns differ
 --   gathered_none, gathered_more, gathered_all
+--   Comparing rows columns set u rest others    the same, and the two lists are what is left behind the first u rows and columns
+--   comparing_none, comparing_more, comparing_all
 --   differs_one_way                rows differ from their transpose where refusal 5 applies
 -- Assumes nothing.
 use mathlib.Core.Path.{◌≡◌, sym, ap, ap₂, ◌∙◌, subst}
 use mathlib.Core.Bool.{Bool, false, not, ◌&&◌, ◌||◌, or_comm}
-use mathlib.Core.List.{List}
+use mathlib.Core.List.{List, ◌∷◌}
 use mathlib.Core.Logic.{◌⊎◌, inl, inr}
 use Prim.Native.Nat.{ℕ, ◌+◌, ◌^◌, ◌≤◌, ◌<◌}
 use native.Mathlib.Nat.{div-one}
@@ -14,7 +16,7 @@ use native.Mathlib.Numerals.{add-one}
 use native.Mathlib.Omega.{arith}
 use lib.Dec.{T, eqb, leb-zero}
 use lib.Bits.{bit_or, bit_xor, or_lt, xor_lt}
-use lib.ListN.{length, get_or, take, get_or-eq_default}
+use lib.ListN.{length, get_or, take, drop, length-drop, get_or-eq_default}
 use lib.Seq.{get_or-take}
 use Rattle.bitset.specs.Below.{any_below, differ}
 use Rattle.bitset.specs.Word.{member, from_up}
@@ -23,6 +25,7 @@ use Rattle.bitset.proofs.Tests.{same_test, below_or}
 use Rattle.bitset.proofs.Below.{any_out, any_at, any_same}
 use Rattle.bitset.proofs.Sets.{differ_in, differ_one}
 use Rattle.bitset.proofs.Word.{member_zero, member_or, member_xor, empty_back}
+use Rattle.bitset.proofs.Chains.{rest_item}
 use Rattle.bitset.proofs.WordOrder.{some_from}
 use Rattle.searches.specs.Ordering.{arcs}
 use Rattle.searches.specs.Answer.{bit_outside, one_way}
@@ -121,3 +124,34 @@ module _ {rows columns : List ℕ} {set u : ℕ} (g : Gathered rows columns set 
       (λ p l.
       ap (λ (b : Bool). b && member set p) (leb-zero p) ∙ g.members p
       ∙ ap (λ (m : ℕ). any_below m (λ i. differ (member (get_or rows i 0)) (member (get_or columns i 0)) p)) all)
+
+-- ---- the rows and columns gone through together
+
+pub record Comparing (rows columns : List ℕ) (set u : ℕ) (rest others : List ℕ) : Type 0 where
+  pub gathered : Gathered rows columns set u
+  pub rows_left : rest ≡ drop u rows
+  pub columns_left : others ≡ drop u columns
+
+pub comparing_none : (rows columns : List ℕ) {rest others : List ℕ} → rest ≡ rows → others ≡ columns → Comparing rows columns 0 0 rest others
+comparing_none rows columns a b = record { gathered = gathered_none rows columns; rows_left = a; columns_left = b }
+
+module _ {rows columns : List ℕ} {set u : ℕ} {rest others : List ℕ} (g : Comparing rows columns set u rest others) where
+  pub comparing_more : {x y m : ℕ} {left right : List ℕ} → rest ≡ x ∷ left → others ≡ y ∷ right → m ≡ u + 1
+      → get_or rows u 0 < 2 ^ 64 → get_or columns u 0 < 2 ^ 64 → Comparing rows columns (bit_or set (bit_xor x y)) m left right
+  comparing_more {x} {y} {m} {left} {right} first second onward row column =
+      let a = rest_item rows 0 u (sym first ∙ g.rows_left) in
+      let b = rest_item columns 0 u (sym second ∙ g.columns_left) in
+      record {
+        gathered =
+            subst (λ (w : ℕ). Gathered rows columns (bit_or set w) m) (sym (ap₂ bit_xor a.1 b.1))
+            (subst (λ (n : ℕ). Gathered rows columns (bit_or set (bit_xor (get_or rows u 0) (get_or columns u 0))) n) (sym onward) (gathered_more g.gathered a.0 row column));
+        rows_left = a.2 ∙ ap (λ (n : ℕ). drop n rows) (sym onward);
+        columns_left = b.2 ∙ ap (λ (n : ℕ). drop n columns) (sym onward);
+      }
+
+  pub comparing_all : length columns ≡ length rows → (length rest ≡ 0) ⊎ (length others ≡ 0) → not (eqb set 0) ≡ any_below 64 (differs_in rows columns)
+  comparing_all as_many end = gathered_all g.gathered (go end)
+    where
+      go : (length rest ≡ 0) ⊎ (length others ≡ 0) → length rows ≤ u
+      go (inl e) = omega (arith, ap length g.rows_left, length-drop u rows)
+      go (inr e) = omega (arith, ap length g.columns_left, length-drop u columns)

@@ -7,12 +7,7 @@ pub fn row_used_from(rows: &[u64], n: usize) -> bool
     requires { (n ≤ 64) × (length rows.now ≡ 64) }
     ensures { result ≡ used_from n rows.now }
 {
-    for u in n..64 {
-        if rows[u] != 0 {
-            return true;
-        }
-    }
-    false
+    rows[n..].iter().any(|row| *row != 0)
 }
 
 // Whether an entry from position `k` on is not 0.
@@ -20,10 +15,5 @@ pub fn entry_used_from(ordering: &[u8], k: usize) -> bool
     requires { (k ≤ 64) × (length ordering.now ≡ 64) }
     ensures { result ≡ used_from k ordering.now }
 {
-    for p in k..64 {
-        if ordering[p] != 0 {
-            return true;
-        }
-    }
-    false
+    ordering[k..].iter().any(|entry| *entry != 0)
 }

@@ -9,12 +9,7 @@ pub fn vertex_outside(list: &[u8], k: usize, n: usize) -> bool
     requires { k ≤ length list.now }
     ensures { result ≡ vertex_outside n list.now k }
 {
-    for p in 0..k {
-        if n <= list[p] as usize {
-            return true;
-        }
-    }
-    false
+    list[..k].iter().any(|vertex| n <= *vertex as usize)
 }
 
 // Whether one of the first `k` entries is a vertex of `barred`.
@@ -25,12 +20,9 @@ pub fn vertex_barred(list: &[u8], k: usize, barred: u64) -> bool
     if barred == 0 {
         return false;
     }
-    for p in 0..k {
-        if bitset::contains(barred, list[p] as usize) {
-            return true;
-        }
-    }
-    false
+    list[..k]
+        .iter()
+        .any(|vertex| bitset::contains(barred, *vertex as usize))
 }
 
 // Whether one of the first `k` entries, all below 64, stands there twice: the set of them is then smaller than `k`.
@@ -40,9 +32,8 @@ pub fn repeated(list: &[u8], k: usize) -> bool
     ensures { result ≡ answer.repeated list.now k }
 {
     let mut seen = 0u64;
-    for q in 0..k {
-        let vertex = list[q] as usize;
-        seen = bitset::insert(seen, vertex);
+    for vertex in &list[..k] {
+        seen = bitset::insert(seen, *vertex as usize);
     }
     bitset::size(seen) != k
 }

@@ -5,6 +5,7 @@
 pub mod behind;
 pub mod columns;
 pub mod entries;
+pub mod graph;
 pub mod rows;
 
 ghost use Rattle.std.specs.Prelude.{◌≡◌, ◌<◌, length, get_or};
@@ -25,6 +26,5 @@ pub fn vertex_at(ordering: &[u8], position: Position) -> Vertex
 pub fn row_of(rows: &[u64], vertex: Vertex) -> u64
     ensures { result ≡ get_or rows.now vertex.0 0 }
 {
-    let v = vertex.0 as usize;
-    if v < rows.len() { rows[v] } else { 0 }
+    rows.get(vertex.0 as usize).copied().unwrap_or(0)
 }

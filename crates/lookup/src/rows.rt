@@ -1,32 +1,23 @@
 // Tests on the rows of a graph.
 ghost use Rattle.std.specs.Prelude.{◌≡◌, false, ◌≤◌, ◌<◌, length};
-ghost use Rattle.bitset.specs.Below.{any_below, first_below};
+ghost use Rattle.bitset.specs.Below.{any_below, found_below};
 ghost use Rattle.searches.specs.Answer.{bit_outside};
 ghost use Rattle.searches.specs.Answer as answer;
-ghost use Rattle.lookup.specs.Row.{refused_at, differs_in};
+ghost use Rattle.lookup.specs.Row.{outside_at, loop_at, differs_in};
 
-// Whether refusal `number`, 3 or 4, applies to the row of `u`.
-fn row_refused(rows: &[u64], u: usize, number: u8) -> bool
-    requires { u < length rows.now }
-    ensures { result ≡ refused_at number rows.now u }
-{
-    if number == 3 {
-        return bitset::any_from(rows[u], rows.len());
-    }
-    bitset::contains(rows[u], u)
-}
-
-// The first row to which refusal `number`, 3 or 4, applies; the number of rows where there is none.
-pub fn first_refused(rows: &[u64], number: u8) -> usize
-    ensures { result ≡ first_below (length rows.now) (refused_at number rows.now) }
+// The first row with a bit at or above the number of rows, where there is one.
+pub fn first_outside(rows: &[u64]) -> Option<usize>
+    ensures { result ≡ found_below (length rows.now) (outside_at rows.now) }
 {
     let n = rows.len();
-    for u in 0..n {
-        if row_refused(rows, u, number) {
-            return u;
-        }
-    }
-    n
+    rows.iter().position(|row| bitset::any_from(*row, n))
+}
+
+// The first vertex that stands in its own row, where there is one.
+pub fn first_looped(rows: &[u64]) -> Option<usize>
+    ensures { result ≡ found_below (length rows.now) (loop_at rows.now) }
+{
+    (0..rows.len()).find(|u| bitset::contains(rows[*u], *u))
 }
 
 // Whether a row differs from the column of the same number. All are compared, and what differs is gathered in one word.
@@ -35,8 +26,8 @@ fn differs(rows: &[u64], columns: &[u64]) -> bool
     ensures { result ≡ any_below 64 (differs_in rows.now columns.now) }
 {
     let mut difference = 0u64;
-    for u in 0..rows.len() {
-        difference = difference | (rows[u] ^ columns[u]);
+    for (row, column) in rows.iter().zip(columns) {
+        difference |= *row ^ *column;
     }
     difference != 0
 }

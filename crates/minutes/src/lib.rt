@@ -20,7 +20,7 @@ pub fn minutes_of(rows: &[u64], ordering: &[u8], minutes: &[u16]) -> u64
         let v = vertex.0 as usize;
         let own = minutes_at(minutes, v);
         let jump = jump_minutes(rows, ordering, Position(p));
-        total = total + own + jump;
+        total += own + jump;
     }
     total
 }
@@ -29,11 +29,7 @@ pub fn minutes_of(rows: &[u64], ordering: &[u8], minutes: &[u16]) -> u64
 fn minutes_at(minutes: &[u16], v: usize) -> u64
     ensures { result ≡ at minutes.now v }
 {
-    if v < minutes.len() {
-        minutes[v] as u64
-    } else {
-        0
-    }
+    minutes.get(v).copied().unwrap_or(0) as u64
 }
 
 // 7 for a position that is not the first, where the vertex placed directly before does not lead to the one there; else 0.

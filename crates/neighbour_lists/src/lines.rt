@@ -1,6 +1,6 @@
 // What the lines are made of.
-use notation::{put, show, wide};
-use searches::{Judgement, Mark, Outcome, Refusal, Violation};
+use notation::{put, show};
+use searches::{Judgement, Mark, Refusal, Vertex, Violation};
 
 // How a line begins: the letter of the call, and the mark.
 pub fn show_call(letter: u8, mark: Mark) {
@@ -15,44 +15,44 @@ fn wide_offset(offset: u16) -> u64 {
 
 // Prints offsets.
 pub fn show_offsets(offsets: &[u16]) {
-    for u in 0..offsets.len() {
-        show(wide_offset(offsets[u]));
+    for offset in offsets {
+        show(wide_offset(*offset));
     }
 }
 
 fn show_refusal(refusal: Refusal) {
     put(b' ');
     put(b'r');
-    show(checks::number::number(refusal) as u64);
+    show(refusal as u64);
 }
 
 // The answer of a conversion: d for done, or r and the number of the refusal.
-pub fn show_outcome(outcome: Outcome) {
+pub fn show_outcome(outcome: Result<(), Refusal>) {
     match outcome {
-        Outcome::Done => {
+        Ok(()) => {
             put(b' ');
             put(b'd');
         }
-        Outcome::Refused(refusal) => show_refusal(refusal),
+        Err(refusal) => show_refusal(refusal),
     }
 }
 
-fn show_triple(violation: Violation) {
+fn show_triple(violation: Violation<Vertex>) {
     put(b' ');
     put(b'f');
-    show(wide(violation.a.0));
-    show(wide(violation.b.0));
-    show(wide(violation.c.0));
+    show(u64::from(violation.a.0));
+    show(u64::from(violation.b.0));
+    show(u64::from(violation.c.0));
 }
 
 // The answer of judge: p for a walk that passes, f and the triple, or r and the number of the refusal.
-pub fn show_judgement(judgement: Judgement) {
-    match judgement {
-        Judgement::Passes => {
+pub fn show_judgement(answer: Result<Judgement<Vertex>, Refusal>) {
+    match answer {
+        Ok(Judgement::Passes) => {
             put(b' ');
             put(b'p');
         }
-        Judgement::Fails(violation) => show_triple(violation),
-        Judgement::Refused(refusal) => show_refusal(refusal),
+        Ok(Judgement::Fails(violation)) => show_triple(violation),
+        Err(refusal) => show_refusal(refusal),
     }
 }

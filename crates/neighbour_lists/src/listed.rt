@@ -10,7 +10,7 @@ fn as_count(offset: u16) -> usize {
 
 // Writes the lists of a valid plan. Returns how many neighbours there are.
 fn write(mark: Mark, rows: &[u64], offsets: &mut [u16], neighbours: &mut [u8]) -> usize {
-    conversion::to_lists(mark, rows, offsets, neighbours);
+    let _ = conversion::to_lists(mark, rows, offsets, neighbours);
     let n = rows.len();
     if n < offsets.len() {
         as_count(offsets[n])

@@ -23,7 +23,7 @@ use searches::Mark;
 
 // A random number for each mark, n and number of links.
 fn seed(mark: Mark, n: usize, links: u8) -> u64 {
-    let digits = (n as u64) ^ (notation::wide(links) << 8) ^ (notation::number(mark) << 24);
+    let digits = (n as u64) ^ (u64::from(links) << 8) ^ (notation::number(mark) << 24);
     next(next(next(digits ^ 0x9e3779b97f4a7c15)))
 }
 

@@ -39,7 +39,7 @@ fn judge_carried_on(
     requires { n ≤ 64 }
 {
     let k = bitset::size(unbarred(n, barred));
-    engine::carry_on(Kind(kind), mark, &rows[..n], barred, tie_break, output, 0);
+    let _ = engine::carry_on(Kind(kind), mark, &rows[..n], barred, tie_break, output, 0);
     if k <= output.len() {
         listed::judge(mark, rows, n, barred, &output[..k]);
     }

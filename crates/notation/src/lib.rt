@@ -2,7 +2,8 @@
 // number, 64 points in a row, and an output list before a call.
 #![tactic(auto)]
 
-use searches::{Comparison, Mark};
+use searches::{Comparison, Mark, Refusal};
+use std::array;
 
 // Prints one byte.
 pub fn put(byte: u8) {
@@ -34,9 +35,37 @@ pub fn letter(answer: Comparison) -> u8 {
     }
 }
 
-// A byte as a number that can be printed.
-pub fn wide(byte: u8) -> u64 {
-    byte as u64
+// The number that is printed for a call that hands its result over elsewhere: 0, or that of its refusal.
+pub fn outcome(answer: Result<(), Refusal>) -> u64 {
+    match answer {
+        Ok(()) => 0,
+        Err(refusal) => refusal as u64,
+    }
+}
+
+// Prints 0 and the number that was answered, or the number of the refusal and 0.
+pub fn show_answer(answer: Result<u64, Refusal>) {
+    match answer {
+        Ok(number) => {
+            show(0);
+            show(number);
+        }
+        Err(refusal) => {
+            show(refusal as u64);
+            show(0);
+        }
+    }
+}
+
+// How one vertex stands to another, or the number of the refusal.
+pub fn show_standing(standing: Result<Comparison, Refusal>) {
+    match standing {
+        Ok(answer) => {
+            put(b' ');
+            put(letter(answer));
+        }
+        Err(refusal) => show(refusal as u64),
+    }
 }
 
 // Prints a space and a bar: before a list or a set.
@@ -45,54 +74,38 @@ pub fn show_bar() {
     put(b'|');
 }
 
-// The row or the place with the number p, of which so many are used.
-fn show_entry(entry: u64, used: usize, p: usize) {
-    if p < used {
-        show(entry);
-    } else if entry != 0 {
-        show(p as u64);
-        put(b':');
-        io::print_decimal(1, entry);
-    }
-}
-
-// Prints n rows, and those behind them that are not 0, each with its number.
-pub fn show_rows(rows: [u64; 64], n: usize) {
+// Prints a bar and the first entries of an array, rows or places, of which so many are used, and those behind them that are not 0, each with its number.
+pub fn show_entries<T: Copy + Into<u64>>(entries: &[T; 64], used: usize) {
     show_bar();
-    for p in 0..64 {
-        show_entry(rows[p], n, p);
-    }
-}
-
-// Prints k places, and those behind them that are not 0, each with its number.
-pub fn show_places(places: [u8; 64], k: usize) {
-    show_bar();
-    for p in 0..64 {
-        show_entry(wide(places[p]), k, p);
+    for (p, entry) in entries.iter().enumerate() {
+        let entry: u64 = (*entry).into();
+        if p < used {
+            show(entry);
+        } else if entry != 0 {
+            show(p as u64);
+            put(b':');
+            io::print_decimal(1, entry);
+        }
     }
 }
 
 // Prints the rows of a plan.
 pub fn show_plan(rows: &[u64]) {
-    for u in 0..rows.len() {
-        show(rows[u]);
+    for row in rows {
+        show(*row);
     }
 }
 
 // Prints the bytes of a list.
 pub fn show_list(list: &[u8]) {
-    for p in 0..list.len() {
-        show(wide(list[p]));
+    for byte in list {
+        show(u64::from(*byte));
     }
 }
 
 // An output list before a call: the byte at place p is 100 + p.
 pub fn fresh() -> [u8; 66] {
-    let mut list = [0u8; 66];
-    for p in 0u8..66 {
-        list[p as usize] = 100 + p;
-    }
-    list
+    array::from_fn(|p| 100 + p as u8)
 }
 
 // The rows of a plan that is written as sixteen hexadecimal digits, two for each row, from the first on. The rows after these eight are 0.
@@ -119,11 +132,7 @@ pub fn places_of(walk: u64) -> [u8; 64] {
 
 // The points 0 to 63.
 pub fn all_points() -> [u8; 64] {
-    let mut points = [0u8; 64];
-    for p in 0u8..64 {
-        points[p as usize] = p;
-    }
-    points
+    array::from_fn(|p| p as u8)
 }
 
 // The rows of 64 points, each linked to the one before it and the one after it.

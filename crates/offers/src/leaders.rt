@@ -3,11 +3,11 @@
 ghost use Rattle.std.specs.Prelude.{◌≡◌, cond, ◌≢◌, ◌<◌};
 ghost use Rattle.bitset.specs.Word.{inserted, united, common};
 ghost use Rattle.searches.specs.Kind.{search_of, mns};
-ghost use Rattle.labels.specs.Words.{Weighed};
 ghost use Rattle.offers.specs.Open.{open_in, Covers, Reaches, Offers, Level, Narrows, Leads, by_rule};
 
-use labels::profile::{Profile, profile_of};
-use searches::{Kind, Vertex};
+use labels::Labels;
+use labels::profile::Profile;
+use searches::{Comparison, Kind, Vertex};
 
 // The leaders once `u` was compared with them: `u` alone where it is ahead of them, with `u` where it is level with them.
 fn led(ahead: bool, level: bool, best: u64, u: usize) -> u64
@@ -29,12 +29,12 @@ fn leader(ahead: bool, next: u64, lead: u64) -> u64
 }
 
 // The vertices of two sets that none of these is ahead of. Those of `known`, which is not empty, are level with one another.
-fn leading(kind: Kind, labels: &[u64; 64], weights: &[u64; 64], known: u64, rivals: u64) -> u64
-    requires { (search_of kind.0 ≢ mns) × (0 < known) × Level (search_of kind.0) labels.now known × Weighed (search_of kind.0) labels.now weights.now }
-    ensures { Offers (search_of kind.0) labels.now (united known rivals) result }
+fn leading(labels: &Labels, known: u64, rivals: u64) -> u64
+    requires { (search_of labels.now.kind.0 ≢ mns) × (0 < known) × Level (search_of labels.now.kind.0) labels.now.words known }
+    ensures { Offers (search_of labels.now.kind.0) labels.now.words (united known rivals) result }
 {
     let first = bitset::smallest(known) as u8;
-    let start = profile_of(labels, weights, Vertex(first));
+    let start = labels.profile(Vertex(first));
     let mut best = known;
     // the two halves of the leaders' profile, apart so that the compiler keeps them in registers
     let mut label = start.label;
@@ -43,11 +43,11 @@ fn leading(kind: Kind, labels: &[u64; 64], weights: &[u64; 64], known: u64, riva
     while rest != 0 {
         let u = bitset::smallest(rest);
         let number = u as u8;
-        let next = profile_of(labels, weights, Vertex(number));
+        let next = labels.profile(Vertex(number));
         let lead = Profile { label, weight };
-        let answer = labels::compare(kind, next, lead);
-        let ahead = labels::tells_ahead(answer);
-        let level = labels::tells_level(answer);
+        let answer = labels::compare(labels.kind, next, lead);
+        let ahead = answer == Comparison::Ahead;
+        let level = answer == Comparison::Level;
         best = led(ahead, level, best, u);
         label = leader(ahead, next.label, label);
         weight = leader(ahead, next.weight, weight);
@@ -59,24 +59,17 @@ fn leading(kind: Kind, labels: &[u64; 64], weights: &[u64; 64], known: u64, riva
 // The offered vertices of `free` once a vertex was placed, found by comparing. `stay` are those that were offered before and are still unplaced, `grown` the
 // unplaced ones that the placed vertex leads to, and `reached` those that any placed vertex leads to. Where some stay, only these and the grown ones can be
 // offered. In MNS any set is returned.
-fn narrowed(
-    kind: Kind,
-    labels: &[u64; 64],
-    weights: &[u64; 64],
-    free: u64,
-    reached: u64,
-    stay: u64,
-    grown: u64,
-) -> u64
-    requires { Narrows (search_of kind.0) labels.now free stay grown × Covers reached labels.now × Reaches reached free labels.now × Weighed (search_of kind.0) labels.now weights.now }
-    ensures { Offers (search_of kind.0) labels.now free result }
+fn narrowed(labels: &Labels, free: u64, reached: u64, stay: u64, grown: u64) -> u64
+    requires { Narrows (search_of labels.now.kind.0) labels.now.words free stay grown × Covers reached labels.now.words
+        × Reaches reached free labels.now.words }
+    ensures { Offers (search_of labels.now.kind.0) labels.now.words free result }
 {
-    if kind.0 == Kind::MNS.0 {
+    if labels.kind == Kind::MNS {
         return free;
     }
     let still = bitset::without(stay, grown);
     if still != 0 {
-        return leading(kind, labels, weights, still, grown);
+        return leading(labels, still, grown);
     }
     let rivals = if stay == 0 {
         bitset::common(free, reached)
@@ -87,7 +80,7 @@ fn narrowed(
         return free;
     }
     let first = bitset::insert(0, bitset::smallest(rivals));
-    leading(kind, labels, weights, first, rivals)
+    leading(labels, first, rivals)
 }
 
 // The set that leads by the rule of a search, with nobody compared: in Generic the front, all that are reached; in BFS `early`, those that were offered and
@@ -95,14 +88,13 @@ fn narrowed(
 fn by_rule(kind: Kind, front: u64, early: u64, grown: u64) -> u64
     ensures { result ≡ by_rule kind.0 front early grown }
 {
-    let search = kind.0;
-    if search == Kind::GENERIC.0 {
+    if kind == Kind::GENERIC {
         return front;
     }
-    if search == Kind::BFS.0 {
+    if kind == Kind::BFS {
         return early;
     }
-    if search == Kind::DFS.0 {
+    if kind == Kind::DFS {
         return grown;
     }
     0
@@ -111,48 +103,39 @@ fn by_rule(kind: Kind, front: u64, early: u64, grown: u64) -> u64
 // The offered vertices of `free` once a vertex was placed: by the rule of the search, and where that names nobody by comparing (`narrowed`). `early` are those
 // of `stay` that were reached before.
 pub fn offered_after(
-    kind: Kind,
-    labels: &[u64; 64],
-    weights: &[u64; 64],
+    labels: &Labels,
     free: u64,
     reached: u64,
     early: u64,
     stay: u64,
     grown: u64,
 ) -> u64
-    requires { Narrows (search_of kind.0) labels.now free stay grown × Covers reached labels.now × Reaches reached free labels.now
-        × Weighed (search_of kind.0) labels.now weights.now × Leads (search_of kind.0) labels.now free (by_rule kind.0 (common free reached) early grown) }
-    ensures { Offers (search_of kind.0) labels.now free result }
+    requires { Narrows (search_of labels.now.kind.0) labels.now.words free stay grown × Covers reached labels.now.words
+        × Reaches reached free labels.now.words
+        × Leads (search_of labels.now.kind.0) labels.now.words free (by_rule labels.now.kind.0 (common free reached) early grown) }
+    ensures { Offers (search_of labels.now.kind.0) labels.now.words free result }
 {
     let front = bitset::common(free, reached);
-    let leaders = by_rule(kind, front, early, grown);
+    let leaders = by_rule(labels.kind, front, early, grown);
     if leaders != 0 {
         return leaders;
     }
-    narrowed(kind, labels, weights, free, reached, stay, grown)
+    narrowed(labels, free, reached, stay, grown)
 }
 
 // Whether `v` is offered. `offered` are the offered vertices, and `reached` holds every vertex whose label is not empty. In MNS `v` is compared with the
 // reached ones.
-pub fn is_open(
-    kind: Kind,
-    labels: &[u64; 64],
-    weights: &[u64; 64],
-    free: u64,
-    reached: u64,
-    offered: u64,
-    v: Vertex,
-) -> bool
-    requires { Offers (search_of kind.0) labels.now free offered × Covers reached labels.now × Weighed (search_of kind.0) labels.now weights.now }
-    ensures { result ≡ open_in (search_of kind.0) labels.now free v.0 }
+pub fn is_open(labels: &Labels, free: u64, reached: u64, offered: u64, v: Vertex) -> bool
+    requires { Offers (search_of labels.now.kind.0) labels.now.words free offered × Covers reached labels.now.words }
+    ensures { result ≡ open_in (search_of labels.now.kind.0) labels.now.words free v.0 }
 {
     let number = v.0 as usize;
-    if kind.0 != Kind::MNS.0 {
+    if labels.kind != Kind::MNS {
         return bitset::contains(offered, number);
     }
     if !bitset::contains(free, number) {
         return false;
     }
-    let mine = profile_of(labels, weights, v);
-    !crate::is_beaten(kind, labels, weights, bitset::common(free, reached), mine)
+    let mine = labels.profile(v);
+    !crate::is_beaten(labels, bitset::common(free, reached), mine)
 }

@@ -7,8 +7,8 @@
 
 ghost use Rattle.std.specs.Prelude.{◌≤◌};
 
-use notation::{number, show, wide};
-use searches::{Kind, Mark, Outcome, Vertex};
+use notation::{number, show};
+use searches::{Kind, Mark, Vertex};
 use traversal::{Stepped, Traversal};
 
 // Plans and walks are written as digits (`rows_of` and `places_of` of `notation`).
@@ -31,35 +31,18 @@ const BACK: u8 = 254;
 // The calls on an open walk.
 const CALLS: [u8; 16] = [BACK, 1, 9, 1, 3, 2, 0, BACK, 0, 2, 3, 4, 0, BACK, BACK, 3];
 
-fn answer(outcome: Outcome) -> u64 {
-    match outcome {
-        Outcome::Done => 0,
-        Outcome::Refused(refusal) => checks::number::number(refusal) as u64,
-    }
-}
-
-fn show_places(places: [u8; 64]) {
-    show(wide(places[0]));
-    show(wide(places[1]));
-    show(wide(places[2]));
-    show(wide(places[3]));
-    show(wide(places[4]));
-    notation::put(b'\n');
-}
-
 // Prints what an open walk offers and holds, and hands it back.
 fn shown(traversal: Traversal) -> Traversal {
     let seen = traversal.offered();
-    let outcome = seen.outcome;
     let next = seen.traversal;
     let mark = next.mark;
     let places = next.ordering;
-    show(answer(outcome));
-    show(seen.set);
+    notation::show_answer(seen.set);
     show(number(mark));
     show(next.n as u64);
     show(next.k as u64);
-    show_places(places);
+    notation::show_list(&places[..5]);
+    notation::put(b'\n');
     next
 }
 
@@ -67,9 +50,9 @@ fn shown(traversal: Traversal) -> Traversal {
 fn told(kind: u8, call: u64, stepped: Stepped) -> Traversal {
     let outcome = stepped.outcome;
     let next = stepped.traversal;
-    io::print_decimal(1, wide(kind));
+    io::print_decimal(1, u64::from(kind));
     show(call);
-    show(answer(outcome));
+    show(notation::outcome(outcome));
     shown(next)
 }
 
@@ -80,7 +63,7 @@ fn step(traversal: Traversal, call: u8) -> Traversal {
     } else {
         traversal.place(Vertex(call))
     };
-    told(kind.0, wide(call), stepped)
+    told(kind.0, u64::from(call), stepped)
 }
 
 // Opened on the first n rows of a plan.

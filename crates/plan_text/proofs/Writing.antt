@@ -2,21 +2,22 @@
 --   piece_room, front_room                 there is room for the next piece of a text, and for the front of a text, where there is room for the text
 --   pair_pieces                            a line with two numbers, piece by piece
 --   sheet_head, sheet_link                 a line of a sheet, written to a list of its length
---   Counting rows count c                  the links below c are counted;   counting_*
+--   links_counted                          the numbers that stand for a link, counted, are as many as there are links
 --   Listing format rows l begin out at c   the lines of the links below c are written from `begin` on, up to `at`;   listing_*
 -- Assumes nothing.
-use Prim.Native.Nat.{ℕ, suc, ◌+◌, ◌*◌, ◌/◌, ◌%◌, ◌≤◌, ◌<◌}
+use Prim.Native.Nat.{ℕ, zero, suc, ◌+◌, ◌*◌, ◌/◌, ◌%◌, ◌≤◌, ◌<◌}
 use mathlib.Core.Path.{◌≡◌, refl, sym, ap, ◌∙◌, subst}
-use mathlib.Core.List.{List, [], ◌∷◌, ◌++◌, append_assoc}
+use mathlib.Core.Bool.{Bool, true, false, cond}
+use mathlib.Core.List.{List, [], ◌∷◌, ◌++◌, append_assoc, map-id}
 use native.Mathlib.Numerals.{add-one}
 use native.Mathlib.Omega.{arith}
 use lib.Dec.{T}
 use lib.ListN.{length, replicate, length-append}
 use lib.Seq.{sets}
-use Rattle.bitset.proofs.Tests.{cond_yes, cond_no}
 use Rattle.fields.specs.Field.{field, fields, line}
+use Rattle.std.specs.List.{count_by, range_with_len}
+use Rattle.std.proofs.lemmas.List.FromFn.{sum_by-map-range_with_len_more}
 use Rattle.sheet.specs.Written.{list_below, is_link, link_list, first_line, link_line, lines}
-use Rattle.sheet.proofs.Listed.{listed_few}
 use Rattle.wording.specs.Decimal.{decimal}
 use Rattle.wording.proofs.Writing.{Written, written_long, written_more}
 use Rattle.edge_lines.specs.Writing.{pair_text}
@@ -49,42 +50,26 @@ sheet_link c p = p
 
 -- ---- counting the links
 
-pub record Counting (rows : List ℕ) (count c : ℕ) : Type 0 where
-  pub upto : c ≤ 64 * length rows
-  pub counted : count ≡ length (list_below c (is_link rows))
+-- one number more
+count_more : (f : ℕ → Bool) (k : ℕ) → count_by f (range_with_len 0 (k + 1)) ≡ count_by f (range_with_len 0 k) + cond (f k) 1 0
+count_more f k =
+    ap (count_by f) (sym (map-id (range_with_len 0 (k + 1))))
+    ∙ sum_by-map-range_with_len_more (λ x. cond (f x) 1 0) (λ x. x) 0 k k (omega arith)
+    ∙ ap (λ (l : List ℕ). count_by f l + cond (f k) 1 0) (map-id (range_with_len 0 k))
 
-pub counting_start : (rows : List ℕ) → Counting rows 0 0
+count_list : (f : ℕ → Bool) (k : ℕ) → count_by f (range_with_len 0 k) ≡ length (list_below k f)
 unfolding list_below
-counting_start rows = record { upto = omega arith; counted = refl }
+count_list f zero = refl
+count_list f (suc k) =
+    ap (λ (m : ℕ). count_by f (range_with_len 0 m)) (sym (add-one k)) ∙ count_more f k ∙ ap (λ (m : ℕ). m + cond (f k) 1 0) (count_list f k) ∙ go (f k)
+  where
+    go : (t : Bool) → length (list_below k f) + cond t 1 0 ≡ length (cond t (list_below k f ++ k ∷ []) (list_below k f))
+    go true = sym (length-append (list_below k f) (k ∷ []))
+    go false = omega arith
 
-module _ {rows : List ℕ} {count c : ℕ} (x : Counting rows count c) where
-  pub counting_few : count ≤ c
-  counting_few = omega (arith, x.counted, listed_few (is_link rows) c)
-
-  pub counting_link : c < 64 * length rows → T (is_link rows c) → Counting rows (count + 1) (c + 1)
-  unfolding list_below
-  counting_link l t =
-      let f = is_link rows in
-      let grown = cond_yes (f c) (list_below c f ++ c ∷ []) (list_below c f) t in
-      subst (λ (m : ℕ). Counting rows (count + 1) m) (sym (add-one c)) (record {
-        upto = l;
-        counted = sym (ap length grown ∙ length-append (list_below c f) (c ∷ []) ∙ ap (λ (m : ℕ). m + 1) (sym x.counted));
-      })
-
-  pub counting_other : c < 64 * length rows → (T (is_link rows c) → ⊥) → Counting rows count (c + 1)
-  unfolding list_below
-  counting_other l out =
-      let f = is_link rows in
-      subst (λ (m : ℕ). Counting rows count m) (sym (add-one c)) (record {
-        upto = l;
-        counted = x.counted ∙ sym (ap length (cond_no (f c) (list_below c f ++ c ∷ []) (list_below c f) out));
-      })
-
-  pub counting_end : 64 * length rows ≤ c → count ≡ length (link_list rows)
-  unfolding link_list
-  counting_end h =
-      let all : c ≡ 64 * length rows = omega (arith, x.upto) in
-      x.counted ∙ ap (λ (m : ℕ). length (list_below m (is_link rows))) all
+pub links_counted : (rows : List ℕ) {m : ℕ} → m ≡ count_by (is_link rows) (range_with_len 0 (64 * length rows)) → m ≡ length (link_list rows)
+unfolding link_list
+links_counted rows e = e ∙ count_list (is_link rows) (64 * length rows)
 
 -- ---- writing their lines
 

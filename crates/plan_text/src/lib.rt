@@ -5,11 +5,12 @@ mod decimal;
 mod line;
 
 ghost use Rattle.std.specs.Prelude.{◌≡◌, ◌*◌, ◌≤◌, ◌<◌, length};
+ghost use Rattle.std.specs.List.{count_by, range_with_len};
 ghost use Rattle.std.proofs.Math.Option.{none};
 ghost use Rattle.std.proofs.lemmas.List.Edits.{sets};
 ghost use Rattle.searches.specs.Answer.{two_way_tests, first_refusal};
 ghost use Rattle.searches.specs.declared.Mark.{Mark};
-ghost use Rattle.sheet.specs.Written.{is_link, link_list};
+ghost use Rattle.sheet.specs.Written.{is_link};
 ghost use Rattle.plan_text.specs.Text.{plan_text, room};
 
 // The format of a text.
@@ -29,18 +30,12 @@ fn is_link(rows: &[u64], c: usize) -> bool
     (u < v) & bitset::contains(rows[u], v)
 }
 
-// How many links there are.
+// How many numbers stand for a link.
 fn link_count(rows: &[u64]) -> usize
     requires { length rows.now ≤ 64 }
-    ensures { result ≡ length (link_list rows.now) }
+    ensures { result ≡ count_by (is_link rows.now) (range_with_len 0 (64 * length rows.now)) }
 {
-    let mut count = 0usize;
-    for c in 0..64 * rows.len() {
-        if is_link(rows, c) {
-            count = count + 1;
-        }
-    }
-    count
+    (0..64 * rows.len()).filter(|c| is_link(rows, *c)).count()
 }
 
 // Writes the text of a graph that is not refused to the front of `output`, and answers where it ends.

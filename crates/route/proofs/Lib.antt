@@ -1,3 +1,4 @@
+pub mod Chains
 pub mod Tree
 pub mod Standing
 pub mod Shortest

@@ -9,17 +9,17 @@
 --   way_answer mark rows w v out     what is answered                                                                [02: K5]
 --   way_output mark rows w v out     what the output list then holds
 --   way_of                           an answer of the code as 02's number and value
-use Rattle.std.specs.Prelude.{ℕ, ◌≤◌, ◌<◌, ◌≡◌, Bool, not, List, [], ◌∷◌, ◌++◌, T, ltb, eqb, length, drop}
+use Rattle.std.specs.Prelude.{ℕ, ◌≤◌, ◌<◌, ◌≡◌, Bool, not, List, [], ◌∷◌, ◌++◌, T, ltb, eqb, length, drop, Result, Ok, Err}
 use Rattle.std.proofs.Math.Option.{none, some}
 use Rattle.bitset.specs.Below.{first_below}
 use Rattle.searches.specs.Kind.{bfs, kind_of}
 use Rattle.searches.specs.Ordering.{arcs, at, placed, IsOrdering}
 use Rattle.searches.specs.Violation.{passes, judge}
 use Rattle.searches.specs.Answer.{is_pass, judge_tests, first_refusal, Accepts, number}
+use Rattle.searches.specs.declared.Refusal.{Refusal}
 use Rattle.searches.specs.declared.Mark.{Mark}
 use Rattle.route.specs.Tree.{tree_path}
 use Rattle.route.specs.Path.{arc_count, IsPath}
-use Rattle.route.specs.declared.WayBack.{WayBack}
 
 unfoldable pub position_of : List ℕ → ℕ → ℕ
 position_of w v = first_below (length w) (λ p. eqb (at w p) v)
@@ -81,6 +81,6 @@ module _ (mark : Mark) (rows w : List ℕ) (v : ℕ) (out : List ℕ) where
         | some r ↦ out
       ]
 
-unfoldable pub way_of : WayBack → Way
-way_of (WayBack.Points m) = points m
-way_of (WayBack.Refused r) = refused (number r)
+unfoldable pub way_of : Result ℕ Refusal → Way
+way_of (Ok m) = points m
+way_of (Err r) = refused (number r)

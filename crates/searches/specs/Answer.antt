@@ -14,8 +14,8 @@
 --   open_barring, judge_barring, carry_on_barring, output_barring   what is answered, and left in the output list, where vertices are barred: that of
 --                                        the graph without them                                              [02: K8]
 --   two_way_tests mark rows                what is refused where only a two-way graph is accepted               [02: K9]
---   number, verdict_of, refusal_of         a refusal, a judgement and an outcome of the code as the papers' number and values
-use Rattle.std.specs.Prelude.{ℕ, ◌<◌, ◌≡◌, ◌⊎◌, Bool, true, false, cond, not, ◌&&◌, ◌||◌, List, [], ◌∷◌, ◌++◌, T, ltb, leb, eqb, length, drop}
+--   number, verdict_of, refusal_of         a refusal, a judgement and the refusal in an answer of the code as the papers' number and values
+use Rattle.std.specs.Prelude.{ℕ, ◌<◌, ◌≡◌, ◌⊎◌, Bool, true, false, cond, not, ◌&&◌, ◌||◌, List, [], ◌∷◌, ◌++◌, T, ltb, leb, eqb, length, drop, Result, Ok, Err}
 use Rattle.std.proofs.Math.Option.{Option, none, some}
 use Rattle.bitset.specs.Below.{any_below, count_below}
 use Rattle.bitset.specs.Word.{member}
@@ -27,7 +27,7 @@ use Rattle.searches.specs.Without.{judge_without, carry_on_without}
 use Rattle.searches.specs.declared.Mark.{Mark}
 use Rattle.searches.specs.declared.Refusal.{Refusal}
 use Rattle.searches.specs.declared.Judgement.{Judgement}
-use Rattle.searches.specs.declared.Outcome.{Outcome}
+use Rattle.searches.specs.declared.Vertex.{Vertex}
 
 unfoldable pub bit_outside : List ℕ → Bool
 bit_outside rows = any_below (length rows) (λ u. any_below 64 (λ v. leb (length rows) v && arcs rows u v))
@@ -226,11 +226,11 @@ number Refusal.OneWayGraph = 25
 number Refusal.MalformedLists = 26
 number Refusal.MalformedFile = 27
 
-unfoldable pub verdict_of : Judgement → Verdict
-verdict_of Judgement.Passes = passes
-verdict_of (Judgement.Fails v) = fails v.a.0 v.b.0 v.c.0
-verdict_of (Judgement.Refused r) = refused (number r)
+unfoldable pub verdict_of : Result (Judgement Vertex) Refusal → Verdict
+verdict_of (Ok Judgement.Passes) = passes
+verdict_of (Ok (Judgement.Fails v)) = fails v.a.0 v.b.0 v.c.0
+verdict_of (Err r) = refused (number r)
 
-unfoldable pub refusal_of : Outcome → Option ℕ
-refusal_of Outcome.Done = none
-refusal_of (Outcome.Refused r) = some (number r)
+unfoldable pub refusal_of : {A : Type 0} → Result A Refusal → Option ℕ
+refusal_of (Ok answer) = none
+refusal_of (Err r) = some (number r)

@@ -5,7 +5,7 @@
 --   output_wide m kind mark table t out k   what the output list then holds
 --   SameGraph m rows table               the rows and the table give the same graph
 --   wide_verdict_of                        a judgement of the code as the papers' number and values
-use Rattle.std.specs.Prelude.{ℕ, ◌*◌, ◌%◌, ◌<◌, ◌≡◌, Bool, not, ◌&&◌, ◌||◌, List, [], ◌∷◌, ltb, leb, eqb, length}
+use Rattle.std.specs.Prelude.{ℕ, ◌*◌, ◌%◌, ◌<◌, ◌≡◌, Bool, not, ◌&&◌, ◌||◌, List, [], ◌∷◌, ltb, leb, eqb, length, Result, Ok, Err}
 use Rattle.std.proofs.Math.Option.{Option}
 use Rattle.bitset.specs.Below.{any_below}
 use Rattle.searches.specs.Kind.{search_of}
@@ -15,7 +15,9 @@ use Rattle.searches.specs.Violation.{Verdict, passes, fails, refused}
 use Rattle.searches.specs.Answer.{is_two_way, number}
 use Rattle.searches.specs.Form.{judge_tests_of, list_tests_of, carry_on_tests_of, judge_of, carry_on_of, output_of}
 use Rattle.searches.specs.declared.Mark.{Mark}
-use Rattle.searches.specs.declared.WideJudgement.{WideJudgement}
+use Rattle.searches.specs.declared.Judgement.{Judgement}
+use Rattle.searches.specs.declared.Refusal.{Refusal}
+use Rattle.searches.specs.declared.WideVertex.{WideVertex}
 
 module _ (m : ℕ) where
   unfoldable pub bit_outside_wide : List ℕ → Bool
@@ -60,7 +62,7 @@ module _ (m : ℕ) where
     pub as_many : length table ≡ m * length rows
     pub same_bits : (u v : ℕ) → u < length rows → arcs_wide m table u v ≡ arcs rows u v
 
-unfoldable pub wide_verdict_of : WideJudgement → Verdict
-wide_verdict_of WideJudgement.Passes = passes
-wide_verdict_of (WideJudgement.Fails v) = fails v.a.0 v.b.0 v.c.0
-wide_verdict_of (WideJudgement.Refused r) = refused (number r)
+unfoldable pub wide_verdict_of : Result (Judgement WideVertex) Refusal → Verdict
+wide_verdict_of (Ok Judgement.Passes) = passes
+wide_verdict_of (Ok (Judgement.Fails v)) = fails v.a.0 v.b.0 v.c.0
+wide_verdict_of (Err r) = refused (number r)

@@ -3,20 +3,20 @@
 #![tactic(auto)]
 
 // A vertex of a graph (01: point).
-#[derive(Clone, Copy)]
+#[derive(Clone, Copy, PartialEq, Eq)]
 pub struct Vertex(pub u8);
 
 // A vertex of a graph in the wide form, of up to 512 vertices (02, K12: a point's number takes 16 bits).
-#[derive(Clone, Copy)]
+#[derive(Clone, Copy, PartialEq, Eq)]
 pub struct WideVertex(pub u16);
 
 // A position in an ordering, counted from 0 (01: place). Only a look-up in the ordering turns a position
 // into the vertex that stands there.
-#[derive(Clone, Copy)]
+#[derive(Clone, Copy, PartialEq, Eq)]
 pub struct Position(pub usize);
 
 // Which of the searches is meant (01: kind). Bytes without a constant here name none and are refused.
-#[derive(Clone, Copy)]
+#[derive(Clone, Copy, PartialEq, Eq)]
 pub struct Kind(pub u8);
 
 impl Kind {
@@ -44,24 +44,16 @@ pub enum Mark {
 }
 
 // Three vertices that show where an ordering leaves its search (01: fault triple a, b, c): `b` was placed
-// although the earlier `a` leads to `c`, and not to `b`, and the search's own condition holds.
+// although the earlier `a` leads to `c`, and not to `b`, and the search's own condition holds. V is `Vertex`, or in the wide form `WideVertex`.
 #[derive(Clone, Copy)]
-pub struct Violation {
-    pub a: Vertex,
-    pub b: Vertex,
-    pub c: Vertex,
-}
-
-// The same in the wide form.
-#[derive(Clone, Copy)]
-pub struct WideViolation {
-    pub a: WideVertex,
-    pub b: WideVertex,
-    pub c: WideVertex,
+pub struct Violation<V> {
+    pub a: V,
+    pub b: V,
+    pub c: V,
 }
 
 // How one of two unplaced vertices stands to the other, by their labels (02: K6).
-#[derive(Clone, Copy)]
+#[derive(Clone, Copy, PartialEq, Eq)]
 pub enum Comparison {
     Ahead,
     Behind,
@@ -69,84 +61,41 @@ pub enum Comparison {
     Neither,
 }
 
-// Why a call is refused. The comment of each is its number in 01; from 18 on, in 02.
+// Why a call is refused, each with its number in 01; from 18 on, in 02.
 #[derive(Clone, Copy)]
 pub enum Refusal {
-    // 1
-    UnknownKind,
-    // 2
-    TooManyVertices,
-    // 3
-    ArcOutOfRange,
-    // 4
-    SelfLoop,
-    // 5
-    OneWayArc,
-    // 6
-    OrderingTooLong,
-    // 7
-    TieBreakLength,
-    // 8
-    VertexOutOfRange,
-    // 9
-    RepeatedVertex,
-    // 10
-    OutputTooShort,
-    // 11
-    MalformedSheet,
-    // 12
-    StartFails,
-    // 13
-    MalformedTraversal,
-    // 14
-    AllPlaced,
-    // 15
-    AlreadyPlaced,
-    // 16
-    NotOffered,
-    // 17
-    NothingToTakeBack,
-    // 18
-    MalformedMinutes,
-    // 19
-    RateTooHigh,
-    // 20
-    OrderingFails,
-    // 21
-    NotBreadthFirst,
-    // 22
-    NotPlaced,
-    // 23
-    BarredOutOfRange,
-    // 24
-    BarredVertex,
-    // 25
-    OneWayGraph,
-    // 26
-    MalformedLists,
-    // 27
-    MalformedFile,
+    UnknownKind = 1,
+    TooManyVertices = 2,
+    ArcOutOfRange = 3,
+    SelfLoop = 4,
+    OneWayArc = 5,
+    OrderingTooLong = 6,
+    TieBreakLength = 7,
+    VertexOutOfRange = 8,
+    RepeatedVertex = 9,
+    OutputTooShort = 10,
+    MalformedSheet = 11,
+    StartFails = 12,
+    MalformedTraversal = 13,
+    AllPlaced = 14,
+    AlreadyPlaced = 15,
+    NotOffered = 16,
+    NothingToTakeBack = 17,
+    MalformedMinutes = 18,
+    RateTooHigh = 19,
+    OrderingFails = 20,
+    NotBreadthFirst = 21,
+    NotPlaced = 22,
+    BarredOutOfRange = 23,
+    BarredVertex = 24,
+    OneWayGraph = 25,
+    MalformedLists = 26,
+    MalformedFile = 27,
 }
 
-// What judging an ordering answers.
+// What judging an ordering answers where it is not refused.
 #[derive(Clone, Copy)]
-pub enum Judgement {
+pub enum Judgement<V> {
     Passes,
-    Fails(Violation),
-    Refused(Refusal),
-}
-
-// What judging an ordering answers in the wide form.
-#[derive(Clone, Copy)]
-pub enum WideJudgement {
-    Passes,
-    Fails(WideViolation),
-    Refused(Refusal),
-}
-
-// What a call answers that hands its result over elsewhere, as carry-on does in the output list.
-#[derive(Clone, Copy)]
-pub enum Outcome {
-    Done,
-    Refused(Refusal),
+    Fails(Violation<V>),
 }

@@ -1,27 +1,27 @@
 // A walk judged in words, and its lines.
 ghost use Rattle.std.specs.Prelude.{◌≤◌};
 
-use notation::{put, show, show_bar, show_list, wide};
-use searches::{Kind, Mark};
-use wording::InWords;
+use notation::{put, show, show_bar, show_list};
+use searches::{Kind, Mark, Refusal};
+use std::array;
 
 // The answer: w and the length of the sentence, or r and the number of the refusal.
-fn show_answer(answer: InWords) {
+fn show_answer(answer: Result<usize, Refusal>) {
     put(b' ');
     match answer {
-        InWords::Length(length) => {
+        Ok(length) => {
             put(b'w');
             show(length as u64);
         }
-        InWords::Refused(refusal) => {
+        Err(refusal) => {
             put(b'r');
-            show(checks::number::number(refusal) as u64);
+            show(refusal as u64);
         }
     }
 }
 
 fn play(kind: u8, mark: Mark, rows: &[u64], barred: u64, walk: &[u8], output: &mut [u8]) {
-    io::print_decimal(1, wide(kind));
+    io::print_decimal(1, u64::from(kind));
     show_answer(wording::judge_in_words(Kind(kind), mark, rows, barred, walk, output));
     show_bar();
     put(b' ');
@@ -31,11 +31,7 @@ fn play(kind: u8, mark: Mark, rows: &[u64], barred: u64, walk: &[u8], output: &m
 
 // An output list before a call: the letters a to z, again and again.
 fn fresh() -> [u8; 128] {
-    let mut list = [0u8; 128];
-    for p in 0..128 {
-        list[p] = b'a' + (p % 26) as u8;
-    }
-    list
+    array::from_fn(|p| b'a' + (p % 26) as u8)
 }
 
 // One kind, with a fresh output list of so many bytes.

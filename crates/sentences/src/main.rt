@@ -20,7 +20,7 @@ const ENOUGH: usize = 96;
 
 // A random number for each mark, n and number of links.
 fn seed(mark: Mark, n: usize, links: u8) -> u64 {
-    let digits = (n as u64) ^ (notation::wide(links) << 8) ^ (notation::number(mark) << 24);
+    let digits = (n as u64) ^ (u64::from(links) << 8) ^ (notation::number(mark) << 24);
     next(next(next(digits ^ 0x2545f4914f6cdd1d)))
 }
 
@@ -35,7 +35,8 @@ fn passing(kind: u8, mark: Mark, rows: [u64; 64], n: usize, barred: u64, random:
 {
     let tie_break = shuffled(bitset::full_below(n), random);
     let mut walk = [0u8; 64];
-    engine::carry_on(
+    // where it is refused, the walk is that of zeros
+    let _ = engine::carry_on(
         Kind(kind),
         mark,
         &rows[..n],

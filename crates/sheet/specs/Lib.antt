@@ -2,3 +2,4 @@ pub mod Sheet
 pub mod Lines
 pub mod Written
 pub mod Parsing
+pub mod Answer

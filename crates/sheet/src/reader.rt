@@ -4,7 +4,7 @@ ghost use Rattle.std.specs.Prelude.{◌≡◌, ◌+◌, ◌*◌, ◌<◌};
 ghost use Rattle.sheet.specs.Parsing.{advanced, advanced_by, blank, parsed_of};
 ghost use Rattle.lines.specs.Line.{Sound};
 
-use lines::{Parsed, next_line};
+use lines::{Content, Parsed, next_line};
 
 #[derive(Clone, Copy)]
 pub struct Reader<'a> {
@@ -37,31 +37,47 @@ fn advance<'a>(progress: Progress<'a>) -> Progress<'a>
 }
 
 // Reads `count` lines.
-fn advance_by<'a>(progress: Progress<'a>, count: usize) -> Progress<'a>
+fn advance_by<'a>(mut progress: Progress<'a>, count: usize) -> Progress<'a>
     requires { (progress.reader.at + 13 * count < 900000) × Sound progress.parsed }
     ensures { result ≡ advanced_by progress.entry count }
 {
-    let mut progress = progress;
-    let mut i = 0;
-    while i < count {
+    for _ in 0..count {
         progress = advance(progress);
-        i = i + 1;
     }
     progress
 }
 
-// Reads the whole sheet: line 1, then the lines that it announces, then the end. `parsed` must be blank.
-pub fn parse(sheet: &[u8], parsed: Parsed) -> Parsed
-    requires { parsed ≡ blank }
+// What is parsed before line 1.
+fn blank() -> Parsed
+    ensures { result ≡ blank }
+{
+    Parsed {
+        good: 0,
+        sound: true,
+        width: 0,
+        rest: 0,
+        content: Content {
+            n: 0,
+            m: 0,
+            k: 0,
+            from: 0,
+            to: 0,
+            outside: false,
+            rows: [0u64; 64],
+            ordering: [0u8; 64],
+        },
+    }
+}
+
+// Reads the whole sheet: line 1, then the lines that it announces, then the end.
+pub fn parse(sheet: &[u8]) -> Parsed
     ensures { result ≡ parsed_of sheet.now }
 {
-    let first = advance_by(
-        Progress {
-            reader: Reader { sheet, at: 0 },
-            parsed,
-        },
-        1,
-    );
+    let start = Progress {
+        reader: Reader { sheet, at: 0 },
+        parsed: blank(),
+    };
+    let first = advance_by(start, 1);
     let whole = advance_by(first, first.parsed.rest);
     whole.parsed
 }

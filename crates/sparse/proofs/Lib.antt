@@ -1,3 +1,2 @@
-pub mod Weighing
 pub mod Same
 pub mod Demands

@@ -34,12 +34,12 @@ use Rattle.searches.proofs.Refusals.{refuses_first, accepts_none, accepts_or_ref
 use Rattle.searches.proofs.Answers.{accepts_both}
 use Rattle.searches.proofs.Barring.{refused_judge}
 use Rattle.checks.proofs.Tried.{tried_first}
-use Rattle.adjacency.specs.Layout.{size_of, arcs_listed, form_tests, self_loop_in, one_way_in, listed_tests, rows_listed, IsLayout}
+use Rattle.adjacency.specs.Layout.{size_of, arcs_listed, form_tests, self_loop_in, one_way_in, listed_tests, rows_listed, columns_of, IsLayout}
 use Rattle.adjacency.proofs.Rows.{rows_of_words, columns_transposed}
 use Rattle.adjacency.proofs.Layouts.{size_suc, arc_to, arcs_listed_lem, arcs_same, rows_length}
 use Rattle.conversion.proofs.Accepted.{accepted_formed, accepted_layout}
+use Rattle.engine.specs.Lists.{Judgeable}
 use Rattle.engine.proofs.Calls.{judge_asked_accepted}
-use Rattle.sparse.specs.Lists.{JudgeableListed}
 use Rattle.sparse.specs.Judge.{open_tests_listed, judge_tests_listed, judge_listed, SameGraph}
 
 -- ---- what is known of lists that are not refused
@@ -168,13 +168,10 @@ module _ (kind : ℕ) (mark : Mark) (barred : ℕ) (w : List ℕ) where
       formed : none ≡ first_refusal (form_tests offsets neighbours)
       formed = sym (accepts_none (form_tests offsets neighbours) (valid_formed kind mark offsets neighbours barred accepted))
 
-      pub asked_judgeable : JudgeableListed offsets neighbours barred w (length w)
-      asked_judgeable = record {
-        layout = layout;
-        judgeable =
-            (judge_asked_accepted kind mark (rows_listed offsets neighbours) barred w (e ∙ judge_tests_same layout formed)
-            (columns_transposed (rows_listed offsets neighbours) (omega (arith, rows_length offsets neighbours, size_suc layout.cover, layout.few)))).0;
-      }
+      pub asked_judgeable : Judgeable (rows_listed offsets neighbours) (columns_of (rows_listed offsets neighbours)) barred w (length w)
+      asked_judgeable =
+          (judge_asked_accepted kind mark (rows_listed offsets neighbours) barred w (e ∙ judge_tests_same layout formed)
+          (columns_transposed (rows_listed offsets neighbours) (omega (arith, rows_length offsets neighbours, size_suc layout.cover, layout.few)))).0
 
       pub asked_verdict : judge_without (search_of kind) (arcs_listed offsets neighbours) (size_of offsets) (unbarred barred) w (length w) ≡ judge_listed kind mark offsets neighbours barred w
       unfolding judge_listed

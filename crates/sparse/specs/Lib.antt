@@ -1,2 +1,1 @@
 pub mod Judge
-pub mod Lists

@@ -5,8 +5,10 @@ ghost use Rattle.searches.specs.Kind.{search_of};
 ghost use Rattle.steps.specs.Steps.{whole, labels_after, smallest_after, largest_after, placed_after, free_after, stops_at, Staged, Replayable};
 
 use crate::place::{Stage, place};
+use labels::Labels;
+use lookup::graph::Graph;
 use lookup::vertex_at;
-use searches::{Kind, Position};
+use searches::Position;
 
 // How many vertices a replay placed, and the stage that it then reached.
 #[derive(Clone, Copy)]
@@ -16,30 +18,26 @@ pub struct Replayed {
 }
 
 // Places the first `k` vertices of `ordering` up to the first that was not offered. No vertex of `barred` is ever unplaced, so nobody is compared with one.
-// `labels` comes in empty, `smallest` and `largest` without a position (64 and 0), `weights` with zeros; they go out with the labels, the running values and
-// the weights of that moment. `columns` are the rows, transposed.
-pub fn replay(
-    kind: Kind,
-    rows: &[u64],
-    columns: &[u64],
+// `labels` comes in empty and goes out with the labels, the running values and the weights of that moment.
+pub fn replay<G: Graph>(
+    graph: G,
     barred: u64,
     ordering: &[u8],
     k: usize,
-    labels: &mut [u64; 64],
-    smallest: &mut [u8; 64],
-    largest: &mut [u8; 64],
-    weights: &mut [u64; 64],
+    labels: &mut Labels,
 ) -> Replayed
-    requires { Replayable rows.now columns.now (whole (length rows.now) barred) ordering.now k labels.old smallest.old largest.old weights.old }
-    ensures count { result.count ≡ first_below k (stops_at (search_of kind.0) rows.now (whole (length rows.now) barred) ordering.now) }
+    requires { Replayable (G.rows graph) (G.columns graph) (whole (length (G.rows graph)) barred) ordering.now k
+        labels.old.words labels.old.smallest labels.old.largest labels.old.weights }
+    ensures count { result.count ≡ first_below k (stops_at (search_of labels.old.kind.0) (G.rows graph) (whole (length (G.rows graph)) barred) ordering.now) }
     ensures set { result.stage.set ≡ placed_after ordering.now result.count }
-    ensures free { result.stage.free ≡ free_after (whole (length rows.now) barred) ordering.now result.count }
-    ensures labels { labels.new ≡ labels_after rows.now (whole (length rows.now) barred) ordering.now result.count }
-    ensures smallest { smallest.new ≡ smallest_after rows.now (whole (length rows.now) barred) ordering.now result.count }
-    ensures largest { largest.new ≡ largest_after rows.now (whole (length rows.now) barred) ordering.now result.count }
-    ensures staged { Staged (search_of kind.0) labels.new weights.new result.stage result.count }
+    ensures free { result.stage.free ≡ free_after (whole (length (G.rows graph)) barred) ordering.now result.count }
+    ensures kind { labels.new.kind ≡ labels.old.kind }
+    ensures words { labels.new.words ≡ labels_after (G.rows graph) (whole (length (G.rows graph)) barred) ordering.now result.count }
+    ensures smallest { labels.new.smallest ≡ smallest_after (G.rows graph) (whole (length (G.rows graph)) barred) ordering.now result.count }
+    ensures largest { labels.new.largest ≡ largest_after (G.rows graph) (whole (length (G.rows graph)) barred) ordering.now result.count }
+    ensures staged { Staged (search_of labels.old.kind.0) labels.new.words labels.new.weights result.stage result.count }
 {
-    let all = bitset::without(bitset::full_below(rows.len()), barred);
+    let all = bitset::without(bitset::full_below(graph.size()), barred);
     let mut stage = Stage {
         set: 0,
         free: all,
@@ -48,29 +46,10 @@ pub fn replay(
     };
     for j in 0..k {
         let b = vertex_at(ordering, Position(j));
-        if !offers::leaders::is_open(
-            kind,
-            labels,
-            weights,
-            stage.free,
-            stage.reached,
-            stage.offered,
-            b,
-        ) {
+        if !offers::leaders::is_open(labels, stage.free, stage.reached, stage.offered, b) {
             return Replayed { count: j, stage };
         }
-        stage = place(
-            kind,
-            rows,
-            columns,
-            labels,
-            smallest,
-            largest,
-            weights,
-            stage,
-            b,
-            Position(j),
-        );
+        stage = place(graph, labels, stage, b, Position(j));
     }
     Replayed { count: k, stage }
 }

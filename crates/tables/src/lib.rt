@@ -38,7 +38,7 @@ pub fn in_set(set: &[u64; 8], v: usize) -> bool
 
 // Puts `v` into the set.
 pub fn include(set: &mut [u64; 8], v: usize)
-    requires { (length set.old ≡ 8) × (v < 512) }
+    requires { v < 512 }
     ensures { set.new ≡ with_bit set.old 0 v }
 {
     let i = v / 64;
@@ -47,7 +47,7 @@ pub fn include(set: &mut [u64; 8], v: usize)
 
 // Takes `v` out of the set.
 pub fn exclude(set: &mut [u64; 8], v: usize)
-    requires { (length set.old ≡ 8) × (v < 512) }
+    requires { v < 512 }
     ensures { set.new ≡ without_bit set.old 0 v }
 {
     let i = v / 64;
@@ -56,7 +56,7 @@ pub fn exclude(set: &mut [u64; 8], v: usize)
 
 // Puts position `p` into the row of `v`.
 pub fn put(labels: &mut [u64; 4096], v: usize, p: usize)
-    requires { (length labels.old ≡ 4096) × (v < 512) × (p < 512) }
+    requires { (v < 512) × (p < 512) }
     ensures { labels.new ≡ with_bit labels.old v p }
 {
     let i = 8 * v + p / 64;
@@ -65,7 +65,7 @@ pub fn put(labels: &mut [u64; 4096], v: usize, p: usize)
 
 // Empties the row of `v`.
 pub fn empty_row(labels: &mut [u64; 4096], v: usize)
-    requires { (length labels.old ≡ 4096) × (v < 512) }
+    requires { v < 512 }
     ensures { EmptiedRow v labels.old labels.new }
 {
     for i in 0..8 {
@@ -99,10 +99,7 @@ pub fn last_only(labels: &[u64; 4096], c: usize, b: usize) -> usize
     requires { (c < 512) × (b < 512) }
     ensures { result ≡ past_last 512 (only (arcs_wide 8 labels.now c) (arcs_wide 8 labels.now b)) }
 {
-    let mut passed = 0;
-    while passed < 8 {
-        passed += 1;
-        let i = 8 - passed;
+    for i in (0..8).rev() {
         let q = past_largest(bitset::without(labels[8 * c + i], labels[8 * b + i]));
         if 0 < q {
             return 64 * i + q;

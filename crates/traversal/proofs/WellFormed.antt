@@ -2,23 +2,22 @@
 --   plan_length, walk_length         there are n rows and k places
 --   parts, of-parts                  the tests that well-formedness is made of
 --   well_formed_out, well_formed_in  well_formed: condition by condition
---   surveyed_broken, surveyed_judged what survey hands back where a test fails, and where judge decides
---   surveyed_passes, surveyed_words  whether the open walk is well formed, and the words of the moment where it is
---   surveyed_weighed                 the weights are those of the labels
+--   surveyed_broken, surveyed_judged whether survey hands back a moment: where a test fails, and where judge decides
+--   surveyed_words, surveyed_weighed the words of the moment, and their weights
 --   open_offers, free_offers, compared_stance   the words of the moment decide who is offered, who is placed and how two stand to each other
 --   free_none, free_some             and whether all that are not barred are placed
 -- Assumes nothing.
 use Prim.Native.Nat.{ℕ, ◌+◌, ◌^◌, ◌≤◌, ◌<◌}
-use mathlib.Core.Path.{◌≡◌, refl, sym, ap, ap₂, ◌∙◌, subst}
-use mathlib.Core.Bool.{Bool, true, false, cond, not, ◌&&◌}
-use mathlib.Core.List.{List, map}
+use mathlib.Core.Path.{◌≡◌, sym, ap, ap₂, ◌∙◌, subst}
+use mathlib.Core.Bool.{Bool, true, false, not, ◌&&◌}
+use mathlib.Core.List.{List}
 use native.Mathlib.Omega.{arith}
 use lib.Dec.{T, leb, eqb, leb→le, le→leb, eqb→eq, eqb_refl, not_T, T_not}
 use lib.ListN.{length, get_or}
 use lib.Seq.{length-take-le}
 use Rattle.bitset.specs.Below.{count_below}
 use Rattle.bitset.specs.Word.{member}
-use Rattle.bitset.proofs.Tests.{and_in, and_out, is_true, is_false, cond_yes, cond_no}
+use Rattle.bitset.proofs.Tests.{and_in, and_out, is_true, is_false}
 use Rattle.bitset.proofs.Count.{count_none}
 use Rattle.bitset.proofs.Scan.{removed_size}
 use Rattle.bitset.proofs.Word as word
@@ -32,16 +31,14 @@ use Rattle.searches.proofs.Barring as barring
 use Rattle.searches.proofs.Kept.{offered_kept}
 use Rattle.searches.proofs.OfferedKept.{offered_kept_lem, compared_kept}
 use Rattle.searches.proofs.NoneBarred.{offered_alike}
-use Rattle.labels.specs.Weights.{weight_of}
 use Rattle.labels.specs.Words.{Weighed, compared_in}
 use Rattle.offers.specs.Open.{open_in}
 use Rattle.steps.specs.Steps.{whole, AreVertices, labels_after, free_after}
 use Rattle.steps.proofs.Representation.{open_offered, free_stays, free_word, free_unplaced, free_size, whole_unbarred, whole_inside, whole_count, whole_word, compared_same}
 use Rattle.engine.specs.declared.after.Moment.{Moment}
-use Rattle.engine.specs.Moments.{no_moment, moment_of, moment_after}
 use Rattle.traversal.specs.declared.Traversal.{Traversal}
 use Rattle.lookup.proofs.Unused.{unused_out, unused_in}
-use Rattle.traversal.specs.State.{plan, walk, in_service, well_formed, surveyed, WellFormed, offers}
+use Rattle.traversal.specs.State.{plan, walk, in_service, well_formed, Surveyed, WellFormed, offers}
 use Rattle.lookup.specs.Unused.{used_from}
 use Rattle.traversal.specs.Compare.{stance}
 
@@ -85,24 +82,18 @@ by_judge t points places rows_unused places_unused =
     (and_in (leb t.n 64) (leb t.k t.n) (le→leb t.n 64 points) (le→leb t.k t.n places))
     (not_T (used_from t.n t.rows) rows_unused)) (not_T (used_from t.k t.ordering) places_unused))))
 
--- ---- what survey hands back
+-- ---- whether survey hands back a moment
 
-pub surveyed_broken : (t : Traversal) {r : Moment} → r ≡ no_moment → (T (well_formed t) → ⊥) → r ≡ surveyed t
-unfolding surveyed
-surveyed_broken t is broken = is ∙ sym (cond_no (well_formed t) (moment_of (search_of t.kind.0) (plan t) t.barred (walk t)) no_moment broken)
+pub surveyed_broken : (t : Traversal) → (T (well_formed t) → ⊥) → false ≡ well_formed t
+surveyed_broken t broken = sym (is_false (well_formed t) broken)
 
-pub surveyed_judged : (t : Traversal) {r : Moment} → r ≡ moment_after t.kind.0 t.mark (plan t) t.barred (walk t) → is_pass (judge_barring t.kind.0 t.mark (plan t) t.barred (walk t)) ≡ well_formed t
-    → r ≡ surveyed t
-unfolding surveyed moment_after
-surveyed_judged t is decides = is ∙ ap (λ (b : Bool). cond b (moment_of (search_of t.kind.0) (plan t) t.barred (walk t)) no_moment) decides
+pub surveyed_judged : (t : Traversal) {there : Bool} → there ≡ is_pass (judge_barring t.kind.0 t.mark (plan t) t.barred (walk t))
+    → is_pass (judge_barring t.kind.0 t.mark (plan t) t.barred (walk t)) ≡ well_formed t → there ≡ well_formed t
+surveyed_judged t is decides = is ∙ decides
 
-pub surveyed_passes : (t : Traversal) {r : Moment} → r ≡ surveyed t → r.passes ≡ well_formed t
-unfolding surveyed moment_of no_moment
-surveyed_passes t is = ap (λ (m : Moment). m.passes) is ∙ go (well_formed t)
-  where
-    go : (b : Bool) → (cond b (moment_of (search_of t.kind.0) (plan t) t.barred (walk t)) no_moment).passes ≡ b
-    go true = refl
-    go false = refl
+-- the weights are those of a search of the walk's kind
+pub surveyed_weighed : (t : Traversal) {m : Moment} → Surveyed t m → Weighed (search_of t.kind.0) m.labels.words m.labels.weights
+surveyed_weighed t {m} is = subst (λ (kind : ℕ). Weighed (search_of kind) m.labels.words m.labels.weights) is.of_kind m.labels.weighed
 
 -- an open walk as it can arrive: its arrays have 64 entries
 module _ (t : Traversal) (rows-full : length t.rows ≡ 64) (ordering-full : length t.ordering ≡ 64) where
@@ -160,23 +151,15 @@ module _ (t : Traversal) (rows-full : length t.rows ≡ 64) (ordering-full : len
 
   -- ---- the words of the moment
 
-  pub surveyed_words : {r : Moment} → r ≡ surveyed t → T (well_formed t)
-      → (r.labels ≡ labels_after (plan t) (whole t.n t.barred) (walk t) t.k) × (r.free ≡ free_after (whole t.n t.barred) (walk t) t.k)
-  unfolding surveyed moment_of
+  pub surveyed_words : {m : Moment} → Surveyed t m → T (well_formed t)
+      → (m.labels.words ≡ labels_after (plan t) (whole t.n t.barred) (walk t) t.k) × (m.free ≡ free_after (whole t.n t.barred) (walk t) t.k)
   surveyed_words is x =
       let p = parts t x in
       let n = plan_length p.points in
-      let k = walk_length (omega (arith, p.points, p.places)) in
-      let there = is ∙ cond_yes (well_formed t) (moment_of (search_of t.kind.0) (plan t) t.barred (walk t)) no_moment x in (
-        ap (λ (m : Moment). m.labels) there ∙ ap₂ (λ (m j : ℕ). labels_after (plan t) (whole m t.barred) (walk t) j) n k,
-        ap (λ (m : Moment). m.free) there ∙ ap₂ (λ (m j : ℕ). free_after (whole m t.barred) (walk t) j) n k,
+      let k = walk_length (omega (arith, p.points, p.places)) in (
+        is.words ∙ ap₂ (λ (m j : ℕ). labels_after (plan t) (whole m t.barred) (walk t) j) n k,
+        is.free ∙ ap₂ (λ (m j : ℕ). free_after (whole m t.barred) (walk t) j) n k,
       )
-
-  pub surveyed_weighed : {r : Moment} → r ≡ surveyed t → T (well_formed t) → Weighed (search_of t.kind.0) r.labels r.weights
-  unfolding surveyed moment_of
-  surveyed_weighed is x =
-      let there = is ∙ cond_yes (well_formed t) (moment_of (search_of t.kind.0) (plan t) t.barred (walk t)) no_moment x in
-      record { same = ap (λ (m : Moment). m.weights) there ∙ sym (ap (λ (m : Moment). map (weight_of (search_of t.kind.0)) m.labels) there) }
 
   module _ (x : WellFormed t) {labels : List ℕ} {free : ℕ} (labelled : labels ≡ labels_after (plan t) (whole t.n t.barred) (walk t) t.k)
       (unplaced : free ≡ free_after (whole t.n t.barred) (walk t) t.k) where

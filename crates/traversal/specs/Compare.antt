@@ -6,15 +6,15 @@
 --   reported refusal x              the refusal where there is one, else the answer x
 --   compare_answer t u v             what is answered                                                              [02: K6]
 --   report_of                        an answer of the code as 02's number or the answer told
-use Rattle.std.specs.Prelude.{ℕ, ◌<◌, Bool, not, ◌||◌, List, [], ◌∷◌, T, leb}
+use Rattle.std.specs.Prelude.{ℕ, ◌<◌, Bool, not, ◌||◌, List, [], ◌∷◌, T, leb, Result, Ok, Err}
 use Rattle.std.proofs.Math.Option.{Option, none, some}
 use Rattle.bitset.specs.Word.{member}
 use Rattle.searches.specs.Kind.{search_of}
 use Rattle.searches.specs.Ordering.{arcs, placed}
 use Rattle.searches.specs.Without.{compared_without}
 use Rattle.searches.specs.Answer.{first_refusal, unbarred, number}
+use Rattle.searches.specs.declared.Refusal.{Refusal}
 use Rattle.searches.specs.declared.Comparison.{Comparison}
-use Rattle.traversal.specs.declared.Standing.{Standing}
 use Rattle.traversal.specs.declared.Traversal.{Traversal}
 use Rattle.traversal.specs.State.{plan, walk, well_formed}
 
@@ -54,6 +54,6 @@ reported (some r) x = refused r
 unfoldable pub compare_answer : Traversal → ℕ → ℕ → Report
 compare_answer t u v = reported (first_refusal (compare_tests t u v)) (stance t u v)
 
-unfoldable pub report_of : Standing → Report
-report_of (Standing.Told x) = told x
-report_of (Standing.Refused r) = refused (number r)
+unfoldable pub report_of : Result Comparison Refusal → Report
+report_of (Ok x) = told x
+report_of (Err r) = refused (number r)

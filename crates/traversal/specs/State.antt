@@ -3,7 +3,7 @@
 --   plan t, walk t                   its graph's rows, and its ordering                                            [01: plan, walk]
 --   in_service t                      how many vertices are not barred                                              [02, K8: the unbarred points]
 --   well_formed t                     the test;   WellFormed t   the same condition by condition                    [01: well formed; 02: K8]
---   surveyed t                       the unplaced vertices, the labels and their weights after the walk; none and empty where t is not well formed
+--   Surveyed t m                     m has the unplaced vertices that are not barred, the kind, and the labels' words, after the walk
 --   offers t v                       v is offered after the walk, in the graph without the barred vertices         [01: offered; 02: K8]
 --   place_tests, take_back_tests        what is refused: numbers and tests in their order                             [01: from the state; 02: K8]
 --   unless_refused answer next kept   the state that a call hands back: the next one, or the one that is kept
@@ -25,7 +25,7 @@ use Rattle.searches.specs.declared.Kind.{Kind}
 use Rattle.searches.specs.declared.Mark.{Mark}
 use Rattle.lookup.specs.Unused.{used_from}
 use Rattle.engine.specs.declared.after.Moment.{Moment}
-use Rattle.engine.specs.Moments.{no_moment, moment_of}
+use Rattle.engine.specs.Moments.{IsMoment}
 use Rattle.traversal.specs.declared.Traversal.{Traversal}
 
 abbrev pub state : Kind → Mark → ℕ → List ℕ → ℕ → ℕ → List ℕ → Traversal
@@ -61,8 +61,8 @@ pub record WellFormed (t : Traversal) : Type 0 where
   pub rows_unused : (u : ℕ) → t.n ≤ u → u < 64 → at t.rows u ≡ 0
   pub places_unused : (p : ℕ) → t.k ≤ p → p < 64 → at t.ordering p ≡ 0
 
-unfoldable pub surveyed : Traversal → Moment
-surveyed t = cond (well_formed t) (moment_of (search_of t.kind.0) (plan t) t.barred (walk t)) no_moment
+abbrev pub Surveyed : Traversal → Moment → Type 0
+Surveyed t m = IsMoment t.kind.0 (plan t) t.barred (walk t) m
 
 -- ---- who is offered
 

@@ -1,49 +1,34 @@
 // Two unplaced vertices of an open walk, compared.
-ghost use Rattle.std.specs.Prelude.{◌≡◌, length};
-ghost use Rattle.traversal.specs.State.{state};
+ghost use Rattle.std.specs.Prelude.{◌≡◌};
 ghost use Rattle.traversal.specs.Compare.{compare_answer, report_of};
 
-use crate::{Standing, survey};
-use labels::profile::profile_of;
-use searches::{Kind, Mark, Refusal, Vertex};
+use crate::Traversal;
+use searches::{Comparison, Refusal, Vertex};
 
-// The first of refusals 13, 8, 24 and 15, in this order, that applies to either vertex, else how `first` stands to `second`.
-pub fn compare(
-    kind: Kind,
-    mark: Mark,
-    n: usize,
-    rows: &[u64],
-    barred: u64,
-    k: usize,
-    ordering: &[u8],
-    first: Vertex,
-    second: Vertex,
-) -> Standing
-    requires { (length rows.now ≡ 64) × (length ordering.now ≡ 64) }
-    ensures { report_of result ≡ compare_answer (state kind mark n rows.now barred k ordering.now) first.0 second.0 }
-{
-    let moment = survey::survey(kind, mark, n, rows, barred, k, ordering);
-    let u = first.0 as usize;
-    let v = second.0 as usize;
-    let outside = (n <= u) | (n <= v);
-    let out_of_service = bitset::contains(barred, u) | bitset::contains(barred, v);
-    let taken = !bitset::contains(moment.free, u) | !bitset::contains(moment.free, v);
-    if !moment.passes {
-        return Standing::Refused(Refusal::MalformedTraversal);
+impl Traversal {
+    // The first of refusals 13, 8, 24 and 15, in this order, that applies to either vertex, else how `first` stands to `second`.
+    pub(crate) fn standing(&self, first: Vertex, second: Vertex) -> Result<Comparison, Refusal>
+        ensures { report_of result ≡ compare_answer self.now first.0 second.0 }
+    {
+        let Some(moment) = self.survey() else {
+            return Err(Refusal::MalformedTraversal);
+        };
+        let u = first.0 as usize;
+        let v = second.0 as usize;
+        let outside = (self.n <= u) | (self.n <= v);
+        let out_of_service = bitset::contains(self.barred, u) | bitset::contains(self.barred, v);
+        let taken = !bitset::contains(moment.free, u) | !bitset::contains(moment.free, v);
+        if outside {
+            return Err(Refusal::VertexOutOfRange);
+        }
+        if out_of_service {
+            return Err(Refusal::BarredVertex);
+        }
+        if taken {
+            return Err(Refusal::AlreadyPlaced);
+        }
+        let c = moment.labels.profile(first);
+        let b = moment.labels.profile(second);
+        Ok(labels::compare(self.kind, c, b))
     }
-    if outside {
-        return Standing::Refused(Refusal::VertexOutOfRange);
-    }
-    if out_of_service {
-        return Standing::Refused(Refusal::BarredVertex);
-    }
-    if taken {
-        return Standing::Refused(Refusal::AlreadyPlaced);
-    }
-    // copied, since the prover covers no two fields of one struct that are borrowed at once
-    let labels = moment.labels;
-    let weights = moment.weights;
-    let c = profile_of(&labels, &weights, first);
-    let b = profile_of(&labels, &weights, second);
-    Standing::Told(labels::compare(kind, c, b))
 }

@@ -6,12 +6,12 @@ mod comparison;
 mod refusals;
 mod survey;
 
-ghost use Rattle.std.specs.Prelude.{◌≡◌};
+ghost use Rattle.std.specs.Prelude.{◌≡◌, IfOk};
 ghost use Rattle.searches.specs.Answer.{open_barring, refusal_of};
 ghost use Rattle.traversal.specs.State.{opened, offered_answer, offered_set, place_answer, grown, take_back_answer, shrunk};
 ghost use Rattle.traversal.specs.Compare.{compare_answer, report_of};
 
-use searches::{Comparison, Kind, Mark, Outcome, Refusal, Vertex};
+use searches::{Comparison, Kind, Mark, Refusal, Vertex};
 
 // An open walk: `n` rows of a graph, the set of its barred vertices, and the first `k` entries of an ordering.
 #[derive(Clone, Copy)]
@@ -29,29 +29,21 @@ pub struct Traversal {
 #[derive(Clone, Copy)]
 pub struct Stepped {
     pub traversal: Traversal,
-    pub outcome: Outcome,
+    pub outcome: Result<(), Refusal>,
 }
 
-// An open walk, and the set of its offered vertices.
+// An open walk, and the set of its offered vertices, or why that is not told.
 #[derive(Clone, Copy)]
 pub struct Offering {
     pub traversal: Traversal,
-    pub set: u64,
-    pub outcome: Outcome,
+    pub set: Result<u64, Refusal>,
 }
 
-// How the first of two vertices stands to the second, or why that is not told.
-#[derive(Clone, Copy)]
-pub enum Standing {
-    Told(Comparison),
-    Refused(Refusal),
-}
-
-// An open walk, and how the first of two of its unplaced vertices stands to the second.
+// An open walk, and how the first of two of its unplaced vertices stands to the second, or why that is not told.
 #[derive(Clone, Copy)]
 pub struct Compared {
     pub traversal: Traversal,
-    pub standing: Standing,
+    pub standing: Result<Comparison, Refusal>,
 }
 
 impl Traversal {
@@ -63,8 +55,7 @@ impl Traversal {
     {
         let mut copy = [0u64; 64];
         let ordering = [0u8; 64];
-        let checked = checks::open_refusal(kind, mark, rows, barred);
-        if let Outcome::Refused(refusal) = checked {
+        if let Err(refusal) = checks::open_refusal(kind, mark, rows, barred) {
             return Stepped {
                 traversal: Traversal {
                     kind: Kind::GENERIC,
@@ -75,7 +66,7 @@ impl Traversal {
                     k: 0,
                     ordering,
                 },
-                outcome: Outcome::Refused(refusal),
+                outcome: Err(refusal),
             };
         }
         bitset::copy::copy(rows, &mut copy);
@@ -89,37 +80,26 @@ impl Traversal {
                 k: 0,
                 ordering,
             },
-            outcome: Outcome::Done,
+            outcome: Ok(()),
         }
     }
 
     // The vertices that may be placed next, none where all that are not barred are placed or the call is refused (13). The open walk comes back as it was.
     pub fn offered(self) -> Offering
         ensures state { result.traversal ≡ self }
-        ensures set { result.set ≡ offered_set self }
-        ensures answer { refusal_of result.outcome ≡ offered_answer self }
+        ensures set { IfOk result.set (λ set. set ≡ offered_set self) }
+        ensures answer { refusal_of result.set ≡ offered_answer self }
     {
-        let kind = self.kind;
-        let mark = self.mark;
-        let n = self.n;
-        let rows = self.rows;
-        let ordering = self.ordering;
-        let moment = survey::survey(kind, mark, n, &rows[..], self.barred, self.k, &ordering[..]);
-        if !moment.passes {
+        let Some(moment) = self.survey() else {
             return Offering {
                 traversal: self,
-                set: 0,
-                outcome: Outcome::Refused(Refusal::MalformedTraversal),
+                set: Err(Refusal::MalformedTraversal),
             };
-        }
-        // copied, since the prover covers no two fields of one struct that are borrowed at once
-        let labels = moment.labels;
-        let weights = moment.weights;
-        let set = offers::open_below(kind, &labels, &weights, moment.free, n);
+        };
+        let set = offers::open_below(&moment.labels, moment.free, self.n);
         Offering {
             traversal: self,
-            set,
-            outcome: Outcome::Done,
+            set: Ok(set),
         }
     }
 
@@ -129,22 +109,7 @@ impl Traversal {
         ensures state { result.traversal ≡ self }
         ensures answer { report_of result.standing ≡ compare_answer self first.0 second.0 }
     {
-        let kind = self.kind;
-        let mark = self.mark;
-        let n = self.n;
-        let rows = self.rows;
-        let ordering = self.ordering;
-        let standing = comparison::compare(
-            kind,
-            mark,
-            n,
-            &rows[..],
-            self.barred,
-            self.k,
-            &ordering[..],
-            first,
-            second,
-        );
+        let standing = self.standing(first, second);
         Compared {
             traversal: self,
             standing,
@@ -156,42 +121,19 @@ impl Traversal {
         ensures state { result.traversal ≡ grown self vertex.0 }
         ensures answer { refusal_of result.outcome ≡ place_answer self vertex.0 }
     {
-        let kind = self.kind;
-        let mark = self.mark;
-        let n = self.n;
-        let rows = self.rows;
-        let barred = self.barred;
-        let k = self.k;
-        let mut ordering = self.ordering;
-        let checked = refusals::place_refusal(
-            kind,
-            mark,
-            n,
-            &rows[..],
-            barred,
-            k,
-            &ordering[..],
-            vertex,
-        );
-        if let Outcome::Refused(refusal) = checked {
+        if let Err(refusal) = self.place_refusal(vertex) {
             return Stepped {
                 traversal: self,
-                outcome: Outcome::Refused(refusal),
+                outcome: Err(refusal),
             };
         }
-        let count = k + 1;
-        ordering[k] = vertex.0;
+        let k = self.k;
+        let mut grown = self;
+        grown.ordering[k] = vertex.0;
+        grown.k = k + 1;
         Stepped {
-            traversal: Traversal {
-                kind,
-                mark,
-                n,
-                rows,
-                barred,
-                k: count,
-                ordering,
-            },
-            outcome: Outcome::Done,
+            traversal: grown,
+            outcome: Ok(()),
         }
     }
 
@@ -200,40 +142,19 @@ impl Traversal {
         ensures state { result.traversal ≡ shrunk self }
         ensures answer { refusal_of result.outcome ≡ take_back_answer self }
     {
-        let kind = self.kind;
-        let mark = self.mark;
-        let n = self.n;
-        let rows = self.rows;
-        let barred = self.barred;
-        let k = self.k;
-        let mut ordering = self.ordering;
-        let checked = refusals::take_back_refusal(
-            kind,
-            mark,
-            n,
-            &rows[..],
-            barred,
-            k,
-            &ordering[..],
-        );
-        if let Outcome::Refused(refusal) = checked {
+        if let Err(refusal) = self.take_back_refusal() {
             return Stepped {
                 traversal: self,
-                outcome: Outcome::Refused(refusal),
+                outcome: Err(refusal),
             };
         }
-        ordering[k - 1] = 0;
+        let last = self.k - 1;
+        let mut shrunk = self;
+        shrunk.ordering[last] = 0;
+        shrunk.k = last;
         Stepped {
-            traversal: Traversal {
-                kind,
-                mark,
-                n,
-                rows,
-                barred,
-                k: k - 1,
-                ordering,
-            },
-            outcome: Outcome::Done,
+            traversal: shrunk,
+            outcome: Ok(()),
         }
     }
 }

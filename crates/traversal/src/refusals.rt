@@ -1,71 +1,49 @@
 // What is refused to an open walk, in its order.
-ghost use Rattle.std.specs.Prelude.{◌≡◌, length};
+ghost use Rattle.std.specs.Prelude.{◌≡◌};
 ghost use Rattle.searches.specs.Answer.{refusal_of};
-ghost use Rattle.traversal.specs.State.{state, place_answer, take_back_answer};
+ghost use Rattle.traversal.specs.State.{place_answer, take_back_answer};
 
-use crate::survey;
-use searches::{Kind, Mark, Outcome, Refusal, Vertex};
+use crate::Traversal;
+use searches::{Refusal, Vertex};
 
-// The first of refusals 13, 14, 8, 24, 15 and 16, in this order, that applies to placing `vertex`, else `Done`.
-pub fn place_refusal(
-    kind: Kind,
-    mark: Mark,
-    n: usize,
-    rows: &[u64],
-    barred: u64,
-    k: usize,
-    ordering: &[u8],
-    vertex: Vertex,
-) -> Outcome
-    requires { (length rows.now ≡ 64) × (length ordering.now ≡ 64) }
-    ensures { refusal_of result ≡ place_answer (state kind mark n rows.now barred k ordering.now) vertex.0 }
-{
-    let moment = survey::survey(kind, mark, n, rows, barred, k, ordering);
-    let v = vertex.0 as usize;
-    if !moment.passes {
-        return Outcome::Refused(Refusal::MalformedTraversal);
+impl Traversal {
+    // The first of refusals 13, 14, 8, 24, 15 and 16, in this order, that applies to placing `vertex`, else `Ok`.
+    pub(crate) fn place_refusal(&self, vertex: Vertex) -> Result<(), Refusal>
+        ensures { refusal_of result ≡ place_answer self.now vertex.0 }
+    {
+        let Some(moment) = self.survey() else {
+            return Err(Refusal::MalformedTraversal);
+        };
+        let v = vertex.0 as usize;
+        // all that are not barred are placed
+        if moment.free == 0 {
+            return Err(Refusal::AllPlaced);
+        }
+        if self.n <= v {
+            return Err(Refusal::VertexOutOfRange);
+        }
+        if bitset::contains(self.barred, v) {
+            return Err(Refusal::BarredVertex);
+        }
+        if !bitset::contains(moment.free, v) {
+            return Err(Refusal::AlreadyPlaced);
+        }
+        if !offers::is_open(&moment.labels, moment.free, vertex) {
+            return Err(Refusal::NotOffered);
+        }
+        Ok(())
     }
-    // all that are not barred are placed
-    if moment.free == 0 {
-        return Outcome::Refused(Refusal::AllPlaced);
-    }
-    if n <= v {
-        return Outcome::Refused(Refusal::VertexOutOfRange);
-    }
-    if bitset::contains(barred, v) {
-        return Outcome::Refused(Refusal::BarredVertex);
-    }
-    if !bitset::contains(moment.free, v) {
-        return Outcome::Refused(Refusal::AlreadyPlaced);
-    }
-    // copied, since the prover covers no two fields of one struct that are borrowed at once
-    let labels = moment.labels;
-    let weights = moment.weights;
-    if !offers::is_open(kind, &labels, &weights, moment.free, vertex) {
-        return Outcome::Refused(Refusal::NotOffered);
-    }
-    Outcome::Done
-}
 
-// The first of refusals 13 and 17 that applies to taking the last vertex back, else `Done`.
-pub fn take_back_refusal(
-    kind: Kind,
-    mark: Mark,
-    n: usize,
-    rows: &[u64],
-    barred: u64,
-    k: usize,
-    ordering: &[u8],
-) -> Outcome
-    requires { (length rows.now ≡ 64) × (length ordering.now ≡ 64) }
-    ensures { refusal_of result ≡ take_back_answer (state kind mark n rows.now barred k ordering.now) }
-{
-    let moment = survey::survey(kind, mark, n, rows, barred, k, ordering);
-    if !moment.passes {
-        return Outcome::Refused(Refusal::MalformedTraversal);
+    // The first of refusals 13 and 17 that applies to taking the last vertex back, else `Ok`.
+    pub(crate) fn take_back_refusal(&self) -> Result<(), Refusal>
+        ensures { refusal_of result ≡ take_back_answer self.now }
+    {
+        if self.survey().is_none() {
+            return Err(Refusal::MalformedTraversal);
+        }
+        if self.k == 0 {
+            return Err(Refusal::NothingToTakeBack);
+        }
+        Ok(())
     }
-    if k == 0 {
-        return Outcome::Refused(Refusal::NothingToTakeBack);
-    }
-    Outcome::Done
 }

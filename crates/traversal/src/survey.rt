@@ -1,35 +1,30 @@
 // Whether an open walk is well formed.
-ghost use Rattle.std.specs.Prelude.{◌≡◌, length};
-ghost use Rattle.traversal.specs.State.{state, surveyed};
+ghost use Rattle.std.specs.Prelude.{◌≡◌, is_some, IfSome};
+ghost use Rattle.traversal.specs.State.{well_formed, Surveyed};
 
-use engine::after::Moment;
-use searches::{Kind, Mark};
+use crate::Traversal;
+use engine::after::{Moment, after};
+use lookup::behind::{entry_used_from, row_used_from};
 
-// Whether the open walk of these parts is well formed; where it is, the unplaced vertices, the labels and their weights of the moment, else no vertex,
-// empty labels and no weight. Its walk is judged once.
-pub fn survey(
-    kind: Kind,
-    mark: Mark,
-    n: usize,
-    rows: &[u64],
-    barred: u64,
-    k: usize,
-    ordering: &[u8],
-) -> Moment
-    requires { (length rows.now ≡ 64) × (length ordering.now ≡ 64) }
-    ensures { result ≡ surveyed (state kind mark n rows.now barred k ordering.now) }
-{
-    if 64 < n {
-        return engine::after::no_moment();
+impl Traversal {
+    // The unplaced vertices and the labels after the walk; none where the open walk is not well formed. Its walk is judged once.
+    pub(crate) fn survey(&self) -> Option<Moment>
+        ensures formed { is_some result ≡ well_formed self.now }
+        ensures moment { IfSome result (λ moment. Surveyed self.now moment) }
+    {
+        if 64 < self.n
+            || self.n < self.k
+            || row_used_from(&self.rows, self.n)
+            || entry_used_from(&self.ordering, self.k)
+        {
+            return None;
+        }
+        after(
+            self.kind,
+            self.mark,
+            &self.rows[..self.n],
+            self.barred,
+            &self.ordering[..self.k],
+        )
     }
-    if n < k {
-        return engine::after::no_moment();
-    }
-    if lookup::behind::row_used_from(rows, n) {
-        return engine::after::no_moment();
-    }
-    if lookup::behind::entry_used_from(ordering, k) {
-        return engine::after::no_moment();
-    }
-    engine::after::after(kind, mark, &rows[..n], barred, &ordering[..k])
 }

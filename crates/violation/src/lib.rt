@@ -2,23 +2,25 @@
 // by number.
 #![tactic(auto)]
 
-ghost use Rattle.std.specs.Prelude.{◌≡◌, ◌<◌, T};
+ghost use Rattle.std.specs.Prelude.{◌≡◌, ◌<◌, T, Ok};
 ghost use Rattle.bitset.specs.Below.{any_below, first_below};
 ghost use Rattle.searches.specs.Kind.{search_of};
 ghost use Rattle.searches.specs.Answer.{verdict_of};
 ghost use Rattle.searches.specs.declared.Judgement.{Judgement};
-ghost use Rattle.labels.specs.Words.{Weighed, profile_of, unexcused_in};
+ghost use Rattle.labels.specs.Words.{profile_of, unexcused_in};
 ghost use Rattle.violation.specs.Fault.{front_in, completes_in, behind_in, last_of, first_in, Searchable, Positioned, first_fault};
 
-use labels::profile::{Profile, profile_of};
-use lookup::{row_of, vertex_at};
-use searches::{Kind, Position, Vertex, Violation};
+use labels::Labels;
+use labels::profile::Profile;
+use lookup::graph::Graph;
+use lookup::vertex_at;
+use searches::{Comparison, Kind, Position, Vertex, Violation};
 
 // The vertices of `free` that `a` leads to; none where `a` leads to `b`, too.
-fn front_of(rows: &[u64], free: u64, a: Vertex, b: Vertex) -> u64
-    ensures { result ≡ front_in rows.now free a.0 b.0 }
+fn front_of<G: Graph>(graph: G, free: u64, a: Vertex, b: Vertex) -> u64
+    ensures { result ≡ front_in (G.rows graph) free a.0 b.0 }
 {
-    let row = row_of(rows, a);
+    let row = graph.row(a);
     if bitset::contains(row, b.0 as usize) {
         0
     } else {
@@ -32,67 +34,51 @@ fn is_unexcused(kind: Kind, position: Position, c: Profile, b: Profile) -> bool
     requires { (position.0 < 64) × (c ≡ profile_of (search_of kind.0) c.label) × (b ≡ profile_of (search_of kind.0) b.label) }
     ensures { result ≡ unexcused_in (search_of kind.0) position.0 c.label b.label }
 {
-    let search = kind.0;
     let i = position.0;
-    if search == Kind::BFS.0 {
+    if kind == Kind::BFS {
         return b.weight <= (64 - i) as u64;
     }
-    if search == Kind::DFS.0 {
+    if kind == Kind::DFS {
         return b.weight <= (i + 1) as u64;
     }
-    if search == Kind::LEX_BFS.0 {
+    if kind == Kind::LEX_BFS {
         return i <= bitset::smallest(bitset::without(b.label, c.label));
     }
-    if search == Kind::LEX_DFS.0 {
+    if kind == Kind::LEX_DFS {
         return !bitset::any_from(bitset::without(b.label, c.label), i + 1);
     }
-    if search == Kind::MNS.0 {
+    if kind == Kind::MNS {
         return bitset::subset(b.label, c.label);
     }
-    if search == Kind::MCS.0 {
-        return labels::tells_ahead(labels::compare(kind, c, b));
+    if kind == Kind::MCS {
+        return labels::compare(kind, c, b) == Comparison::Ahead;
     }
     b.label == 0
 }
 
 // Whether `c` completes a violation with the vertex at position `i` and one whose profile is `mine`: it is in the front of these two, and nothing
 // excuses position `i` against its label.
-fn completes(
-    kind: Kind,
-    labels: &[u64; 64],
-    weights: &[u64; 64],
-    front: u64,
-    i: Position,
-    mine: Profile,
-    c: Vertex,
-) -> bool
-    requires { (i.0 < 64) × (mine ≡ profile_of (search_of kind.0) mine.label) × Weighed (search_of kind.0) labels.now weights.now }
-    ensures { result ≡ completes_in (search_of kind.0) labels.now front i.0 mine.label c.0 }
+fn completes(labels: &Labels, front: u64, i: Position, mine: Profile, c: Vertex) -> bool
+    requires { (i.0 < 64) × (mine ≡ profile_of (search_of labels.now.kind.0) mine.label) }
+    ensures { result ≡ completes_in (search_of labels.now.kind.0) labels.now.words front i.0 mine.label c.0 }
 {
     let last = c.0 as usize;
     if !bitset::contains(front, last) {
         return false;
     }
-    is_unexcused(kind, i, profile_of(labels, weights, c), mine)
+    is_unexcused(labels.kind, i, labels.profile(c), mine)
 }
 
 // Of the vertices that complete a violation the one with the smallest number; 64 where there is none.
-pub fn first_by_number(
-    kind: Kind,
-    labels: &[u64; 64],
-    weights: &[u64; 64],
-    front: u64,
-    i: Position,
-    mine: Profile,
-) -> Vertex
-    requires { (i.0 < 64) × (mine ≡ profile_of (search_of kind.0) mine.label) × Weighed (search_of kind.0) labels.now weights.now }
-    ensures { result.0 ≡ first_below 64 (completes_in (search_of kind.0) labels.now front i.0 mine.label) }
+pub fn first_by_number(labels: &Labels, front: u64, i: Position, mine: Profile) -> Vertex
+    requires { (i.0 < 64) × (mine ≡ profile_of (search_of labels.now.kind.0) mine.label) }
+    ensures { result.0 ≡ first_below 64 (completes_in (search_of labels.now.kind.0) labels.now.words front i.0 mine.label) }
 {
     let mut rest = front;
     while rest != 0 {
         let number = bitset::smallest(rest) as u8;
         let c = Vertex(number);
-        if is_unexcused(kind, i, profile_of(labels, weights, c), mine) {
+        if is_unexcused(labels.kind, i, labels.profile(c), mine) {
             return c;
         }
         rest = bitset::without_smallest(rest);
@@ -102,24 +88,20 @@ pub fn first_by_number(
 
 // The first position behind `j` and below `k` with a vertex that completes a violation; `k` where there is none.
 fn first_by_position(
-    kind: Kind,
     ordering: &[u8],
     k: usize,
-    labels: &[u64; 64],
-    weights: &[u64; 64],
+    labels: &Labels,
     front: u64,
     j: Position,
     i: Position,
     mine: Profile,
 ) -> Position
-    requires { Positioned ordering.now k j.0 i.0 × (mine ≡ profile_of (search_of kind.0) mine.label) × Weighed (search_of kind.0) labels.now weights.now }
-    ensures { result.0 ≡ first_below k (behind_in (search_of kind.0) labels.now front i.0 mine.label ordering.now j.0) }
+    requires { Positioned ordering.now k j.0 i.0 × (mine ≡ profile_of (search_of labels.now.kind.0) mine.label) }
+    ensures { result.0 ≡ first_below k (behind_in (search_of labels.now.kind.0) labels.now.words front i.0 mine.label ordering.now j.0) }
 {
-    let middle = j.0;
-    let behind = middle + 1;
-    for p in behind..k {
+    for p in j.0 + 1..k {
         let c = vertex_at(ordering, Position(p));
-        if completes(kind, labels, weights, front, i, mine, c) {
+        if completes(labels, front, i, mine, c) {
             return Position(p);
         }
     }
@@ -128,47 +110,43 @@ fn first_by_position(
 
 // The third vertex of the first violation: by position behind `j`, and where none is found there by number.
 pub fn first_last(
-    kind: Kind,
     ordering: &[u8],
     k: usize,
-    labels: &[u64; 64],
-    weights: &[u64; 64],
+    labels: &Labels,
     front: u64,
     j: Position,
     i: Position,
     mine: Profile,
 ) -> Vertex
-    requires { Positioned ordering.now k j.0 i.0 × (mine ≡ profile_of (search_of kind.0) mine.label) × Weighed (search_of kind.0) labels.now weights.now }
-    ensures { result.0 ≡ last_of (search_of kind.0) labels.now front i.0 mine.label ordering.now j.0 k }
+    requires { Positioned ordering.now k j.0 i.0 × (mine ≡ profile_of (search_of labels.now.kind.0) mine.label) }
+    ensures { result.0 ≡ last_of (search_of labels.now.kind.0) labels.now.words front i.0 mine.label ordering.now j.0 k }
 {
-    let position = first_by_position(kind, ordering, k, labels, weights, front, j, i, mine);
-    if position.0 < k {
+    let position = first_by_position(ordering, k, labels, front, j, i, mine);
+    let found = position.0 < k;
+    if found {
         return vertex_at(ordering, position);
     }
-    first_by_number(kind, labels, weights, front, i, mine)
+    first_by_number(labels, front, i, mine)
 }
 
 // The first position of a vertex that starts a violation with the vertex at position `j`; `j` where there is none.
-fn first_first(
-    kind: Kind,
-    rows: &[u64],
+fn first_first<G: Graph>(
+    graph: G,
     ordering: &[u8],
     k: usize,
-    labels: &[u64; 64],
-    weights: &[u64; 64],
+    labels: &Labels,
     free: u64,
     j: Position,
 ) -> Position
-    requires { Searchable (search_of kind.0) rows.now ordering.now k labels.now weights.now free j.0 }
-    ensures { result.0 ≡ first_below j.0 (first_in (search_of kind.0) rows.now ordering.now labels.now free j.0 k) }
+    requires { Searchable (search_of labels.now.kind.0) (G.rows graph) ordering.now k labels.now.words labels.now.weights free j.0 }
+    ensures { result.0 ≡ first_below j.0 (first_in (search_of labels.now.kind.0) (G.rows graph) ordering.now labels.now.words free j.0 k) }
 {
     let b = vertex_at(ordering, j);
-    let mine = profile_of(labels, weights, b);
-    let middle = j.0;
-    for i in 0..middle {
+    let mine = labels.profile(b);
+    for i in 0..j.0 {
         let a = vertex_at(ordering, Position(i));
-        let front = front_of(rows, free, a, b);
-        let c = first_by_number(kind, labels, weights, front, Position(i), mine);
+        let front = front_of(graph, free, a, b);
+        let c = first_by_number(labels, front, Position(i), mine);
         if c.0 < 64 {
             return Position(i);
         }
@@ -176,26 +154,25 @@ fn first_first(
     j
 }
 
-// The first violation with the vertex at position `j`, which has one. `labels`, `weights` and `free` are those of its turn.
-pub fn first_violation(
-    kind: Kind,
-    rows: &[u64],
+// The first violation with the vertex at position `j`, which has one. `labels` and `free` are those of its turn.
+pub fn first_violation<G: Graph>(
+    graph: G,
     ordering: &[u8],
     k: usize,
-    labels: &[u64; 64],
-    weights: &[u64; 64],
+    labels: &Labels,
     free: u64,
     j: Position,
-) -> Violation
-    requires { Searchable (search_of kind.0) rows.now ordering.now k labels.now weights.now free j.0 × T (any_below j.0 (first_in (search_of kind.0) rows.now ordering.now labels.now free j.0 k)) }
-    ensures { verdict_of (Judgement.Fails result)
-        ≡ first_fault (search_of kind.0) rows.now ordering.now labels.now free j.0 k }
+) -> Violation<Vertex>
+    requires { Searchable (search_of labels.now.kind.0) (G.rows graph) ordering.now k labels.now.words labels.now.weights free j.0
+        × T (any_below j.0 (first_in (search_of labels.now.kind.0) (G.rows graph) ordering.now labels.now.words free j.0 k)) }
+    ensures { verdict_of (Ok (Judgement.Fails result))
+        ≡ first_fault (search_of labels.now.kind.0) (G.rows graph) ordering.now labels.now.words free j.0 k }
 {
-    let i = first_first(kind, rows, ordering, k, labels, weights, free, j);
+    let i = first_first(graph, ordering, k, labels, free, j);
     let a = vertex_at(ordering, i);
     let b = vertex_at(ordering, j);
-    let front = front_of(rows, free, a, b);
-    let mine = profile_of(labels, weights, b);
-    let c = first_last(kind, ordering, k, labels, weights, front, j, i, mine);
+    let front = front_of(graph, free, a, b);
+    let mine = labels.profile(b);
+    let c = first_last(ordering, k, labels, front, j, i, mine);
     Violation { a, b, c }
 }

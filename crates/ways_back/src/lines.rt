@@ -1,31 +1,17 @@
 // One call, and its line.
 ghost use Rattle.std.specs.Prelude.{◌≤◌};
 
-use notation::{number, put, show, show_list, wide};
-use route::WayBack;
+use notation::{number, put, show, show_answer, show_list};
 use searches::{Mark, Vertex};
-
-// The answer, and how many points were written.
-fn show_answer(answer: WayBack) {
-    match answer {
-        WayBack::Points(count) => {
-            show(0);
-            show(count as u64);
-        }
-        WayBack::Refused(refusal) => {
-            show(checks::number::number(refusal) as u64);
-            show(0);
-        }
-    }
-}
 
 fn play(mark: Mark, rows: &[u64], ordering: &[u8], vertex: u8, output: &mut [u8]) {
     io::print_decimal(1, number(mark));
     show(rows.len() as u64);
     show(ordering.len() as u64);
-    show(wide(vertex));
+    show(u64::from(vertex));
     show(output.len() as u64);
-    show_answer(route::way_back(mark, rows, ordering, Vertex(vertex), output));
+    let answer = route::way_back(mark, rows, ordering, Vertex(vertex), output);
+    show_answer(answer.map(|count| count as u64));
     show_list(output);
     put(b'\n');
 }

@@ -22,3 +22,4 @@ pub mod Clearing
 pub mod Heaviest
 pub mod Starting
 pub mod Thirds
+pub mod Equal

@@ -2,7 +2,7 @@
 --   label_next                       a label with one position more
 --   staged_unplaced, staged_free     who is in `free`
 --   staged_agree                     only the first j vertices of the ordering matter
---   staged_start                     nothing is placed
+--   stored_start, staged_start       nothing is kept; nothing is placed
 --   staged_tallied                   once it is placed, the ones in row AND placed mask are as many as the positions in the label; on two-way graphs
 --   staged_placeable                 the next vertex may be placed
 --   staged_next                      it is placed
@@ -40,20 +40,34 @@ label_next j q f b e =
 
 -- ---- nothing is kept
 
+sized : {l : List ℕ} (m x : ℕ) → l ≡ replicate m x → length l ≡ m
+sized m x e = ap length e ∙ length-replicate {A = ℕ} m x
+
+no_position : {labels : List ℕ} → labels ≡ replicate 4096 0 → (v q : ℕ) → row_of labels v q ≡ false
+unfolding row_of
+no_position none v q = ap (λ (ls : List ℕ). arcs_wide 8 ls v q) none ∙ row_none v q 4096
+
+pub stored_start : (s : Search) {labels smallest largest weights : List ℕ}
+    → labels ≡ replicate 4096 0 → smallest ≡ replicate 512 512 → largest ≡ replicate 512 0 → weights ≡ replicate 512 0 → Stored s labels smallest largest weights
+stored_start s {labels} no_label no_smallest no_largest no_weight = record {
+  weighed = record {
+    size = sized 512 0 no_weight;
+    room = sized 4096 0 no_label;
+    is = λ v l. held 512 0 no_weight v l ∙ sym (none_weighs (row_of labels v) (no_position no_label v) s);
+  };
+  sizes = (sized 512 512 no_smallest, sized 512 0 no_largest);
+  keeps_smallest = λ v l. held 512 512 no_smallest v l ∙ sym (none_smallest (row_of labels v) (no_position no_label v));
+  keeps_largest = λ v l. held 512 0 no_largest v l ∙ sym (none_largest (row_of labels v) (no_position no_label v));
+}
+  where
+    held : {l : List ℕ} (m x : ℕ) → l ≡ replicate m x → (v : ℕ) → v < m → get_or l v 0 ≡ x
+    held m x e v h = ap (λ (ys : List ℕ). get_or ys v 0) e ∙ get_or-replicate m v x 0 h
+
 pub staged_start : (s : Search) {mark : Mark} {table : List ℕ} {n : ℕ} {w : List ℕ} {k : ℕ} {labels smallest largest weights placed' free reached : List ℕ}
     → Replayable mark table n w k labels smallest largest weights placed' free reached → Staged s table n w 0 labels smallest largest weights placed' free reached
 unfolding row_of in_set placed any_below
 staged_start s {mark} {table} {n} {w} {k} {labels} {smallest} {largest} {weights} {placed'} {free} {reached} r = record {
-  stored = record {
-    weighed = record {
-      size = sized 512 0 r.no_weight;
-      room = sized 4096 0 r.no_label;
-      is = λ v l. held 512 0 r.no_weight v l ∙ sym (none_weighs (row_of labels v) (no v) s);
-    };
-    sizes = (sized 512 512 r.no_smallest, sized 512 0 r.no_largest);
-    keeps_smallest = λ v l. held 512 512 r.no_smallest v l ∙ sym (none_smallest (row_of labels v) (no v));
-    keeps_largest = λ v l. held 512 0 r.no_largest v l ∙ sym (none_largest (row_of labels v) (no v));
-  };
+  stored = stored_start s r.no_label r.no_smallest r.no_largest r.no_weight;
   labelled = λ v p _ _. no v p ∙ ap (λ (b : Bool). b && label (arcs_wide 8 table) w v p) (sym (leb-suc-zero p));
   earlier = λ v p _ t. absurd (subst (λ (b : Bool). T b) (no v p) t);
   placed_is = λ v _. nobody r.none_placed v;
@@ -63,14 +77,8 @@ staged_start s {mark} {table} {n} {w} {k} {labels} {smallest} {largest} {weights
   sizes = (sized 8 0 r.none_placed, r.all_free.0, sized 8 0 r.none_reached);
 }
   where
-    sized : {l : List ℕ} (m x : ℕ) → l ≡ replicate m x → length l ≡ m
-    sized m x e = ap length e ∙ length-replicate {A = ℕ} m x
-
-    held : {l : List ℕ} (m x : ℕ) → l ≡ replicate m x → (v : ℕ) → v < m → get_or l v 0 ≡ x
-    held m x e v h = ap (λ (ys : List ℕ). get_or ys v 0) e ∙ get_or-replicate m v x 0 h
-
     no : (v q : ℕ) → row_of labels v q ≡ false
-    no v q = ap (λ (ls : List ℕ). arcs_wide 8 ls v q) r.no_label ∙ row_none v q 4096
+    no = no_position r.no_label
 
     nobody : {set : List ℕ} → set ≡ replicate 8 0 → (v : ℕ) → in_set set v ≡ false
     nobody e v = ap (λ (ls : List ℕ). arcs_wide 8 ls 0 v) e ∙ row_none 0 v 8

@@ -2,9 +2,8 @@
 --   Weighable s mark table placed labels v smallest largest weight   the running values are those of v's label, which is not empty, and on two-way graphs so many ones are in row AND placed
 --                                 mask as there are positions in it; in MNS the weight was one less than there are now
 --   Spreadable s mark table placed labels smallest largest weights word i p   p may be put into the label of each vertex of the word
-use Rattle.std.specs.Prelude.{ℕ, suc, ◌+◌, ◌*◌, ◌/◌, ◌%◌, ◌<◌, ◌≤◌, ◌^◌, ◌≡◌, Bool, ◌&&◌, List, T, eqb, length}
+use Rattle.std.specs.Prelude.{ℕ, suc, ◌+◌, ◌*◌, ◌<◌, ◌≤◌, ◌^◌, ◌≡◌, ◌&&◌, List, T, length}
 use Rattle.bitset.specs.Below.{count_below}
-use Rattle.bitset.specs.Word.{member}
 use Rattle.searches.specs.Kind.{Search, mns}
 use Rattle.searches.specs.Table.{arcs_wide}
 use Rattle.searches.specs.Running.{smallest_in, largest_in}

@@ -10,7 +10,7 @@
 --   Choosable s labels weights free reached t ranks   what the choice by a tie-break asks for
 --   Begun s mark table n t tail k ... w   w, of k vertices, has left what is kept, and `tail` has room for the others
 --   Fillable s mark table n t tail k ...   some ordering has
-use Rattle.std.specs.Prelude.{ℕ, suc, ◌+◌, ◌*◌, ◌≤◌, ◌<◌, ◌≡◌, Bool, not, ◌&&◌, List, T, ltb, length, get_or, replicate}
+use Rattle.std.specs.Prelude.{ℕ, ◌+◌, ◌*◌, ◌≤◌, ◌<◌, ◌≡◌, Bool, not, ◌&&◌, List, T, ltb, length, get_or, replicate}
 use Rattle.bitset.specs.Below.{any_below}
 use Rattle.searches.specs.Kind.{Search}
 use Rattle.searches.specs.Ordering.{at, placed, IsOrdering, IsFullOrdering}

@@ -6,52 +6,37 @@ ghost use Rattle.searches.specs.CarryOn.{carry_on};
 ghost use Rattle.wide.specs.Steps.{Begun, Fillable};
 
 use crate::choice::{choose, rank};
+use crate::kept::{Graph, Labels, Sets};
 use crate::place::place;
-use searches::{Kind, Mark, Position};
+use searches::Position;
 
 // Writes the unplaced vertices to the front of `tail`, in the order in which they carry on from position `k`, with which `tail` begins. What is kept is that
 // after the first `k`.
 pub fn fill(
-    kind: Kind,
-    mark: Mark,
-    table: &[u64],
-    n: usize,
+    graph: &Graph,
     tie_break: &[u16],
     tail: &mut [u16],
     k: usize,
-    labels: &mut [u64; 4096],
-    smallest: &mut [u16; 512],
-    largest: &mut [u16; 512],
-    weights: &mut [u16; 512],
-    placed: &mut [u64; 8],
-    free: &mut [u64; 8],
-    reached: &mut [u64; 8],
+    labels: &mut Labels,
+    sets: &mut Sets,
 )
-    requires { Fillable (search_of kind.0) mark table.now n tie_break.now tail.old k labels.old smallest.old largest.old weights.old placed.old free.old reached.old }
+    requires { Fillable (search_of labels.old.kind.0) graph.now.mark graph.now.table.now graph.now.n tie_break.now tail.old k
+        labels.old.words labels.old.smallest labels.old.largest labels.old.weights
+        sets.old.placed sets.old.free sets.old.reached }
     ensures { (w : List ℕ)
-        → Begun (search_of kind.0) mark table.now n tie_break.now tail.old k labels.old smallest.old largest.old weights.old placed.old free.old reached.old w
-        → tail.new ≡ drop k (carry_on (search_of kind.0) (arcs_wide 8 table.now) n tie_break.now w k) ++ drop (n - k) tail.old }
+        → Begun (search_of labels.old.kind.0) graph.now.mark graph.now.table.now graph.now.n tie_break.now tail.old k
+        labels.old.words labels.old.smallest labels.old.largest labels.old.weights
+        sets.old.placed sets.old.free sets.old.reached w
+        → tail.new
+        ≡ drop k (carry_on (search_of labels.old.kind.0) (arcs_wide 8 graph.now.table.now) graph.now.n tie_break.now w k) ++ drop (graph.now.n - k) tail.old }
 {
     let mut ranks = [0u16; 512];
     rank(tie_break, &mut ranks);
-    let count = n - k;
+    let count = graph.n - k;
     for i in 0..count {
-        let v = choose(kind, labels, weights, free, reached, tie_break, &ranks);
+        let v = choose(labels, sets, tie_break, &ranks);
         tail[i] = v.0;
         let p = k + i;
-        place(
-            kind,
-            mark,
-            table,
-            labels,
-            smallest,
-            largest,
-            weights,
-            placed,
-            free,
-            reached,
-            v,
-            Position(p),
-        );
+        place(graph, labels, sets, v, Position(p));
     }
 }

@@ -1,14 +1,15 @@
 // An ordering placed again, vertex by vertex, until one was not offered.
-ghost use Rattle.std.specs.Prelude.{◌≡◌, ℕ, ◌≤◌, ◌<◌, ltb, length};
+ghost use Rattle.std.specs.Prelude.{◌≡◌, ℕ, ◌<◌, ltb, length};
 ghost use Rattle.bitset.specs.Below.{first_below};
 ghost use Rattle.searches.specs.Kind.{search_of};
 ghost use Rattle.searches.specs.Table.{arcs_wide};
 ghost use Rattle.tables.specs.Rows.{in_set};
 ghost use Rattle.wide.specs.Steps.{stops, Staged, Replayable};
 
+use crate::kept::{Graph, Labels, Sets};
 use crate::place::place;
 use crate::unbeaten::is_beaten;
-use searches::{Kind, Mark, Position};
+use searches::Position;
 use tables::vertex_at;
 
 // The set of the vertices below `n`.
@@ -17,9 +18,7 @@ pub fn all_below(n: usize) -> [u64; 8]
 {
     let mut set = [0u64; 8];
     for i in 0..8 {
-        let below = 64 * i;
-        let count = if below < n { n - below } else { 0 };
-        set[i] = bitset::full_below(count);
+        set[i] = bitset::full_below(n.saturating_sub(64 * i));
     }
     set
 }
@@ -27,44 +26,26 @@ pub fn all_below(n: usize) -> [u64; 8]
 // Places the first `k` vertices of `ordering`, up to the first that was not offered, and returns how many these are. Labels, running values, weights and
 // sets come in as those of nothing placed, and leave as those after so many vertices.
 pub fn replay(
-    kind: Kind,
-    mark: Mark,
-    table: &[u64],
-    n: usize,
+    graph: &Graph,
     ordering: &[u16],
     k: usize,
-    labels: &mut [u64; 4096],
-    smallest: &mut [u16; 512],
-    largest: &mut [u16; 512],
-    weights: &mut [u16; 512],
-    placed: &mut [u64; 8],
-    free: &mut [u64; 8],
-    reached: &mut [u64; 8],
+    labels: &mut Labels,
+    sets: &mut Sets,
 ) -> usize
-    requires { Replayable mark table.now n ordering.now k labels.old smallest.old largest.old weights.old placed.old free.old reached.old }
-    ensures count { result ≡ first_below k (stops (search_of kind.0) (arcs_wide 8 table.now) n ordering.now) }
-    ensures staged { Staged (search_of kind.0) table.now n ordering.now result labels.new smallest.new largest.new weights.new
-        placed.new free.new reached.new }
+    requires { Replayable graph.now.mark graph.now.table.now graph.now.n ordering.now k labels.old.words labels.old.smallest labels.old.largest labels.old.weights
+        sets.old.placed sets.old.free sets.old.reached }
+    ensures count { result ≡ first_below k (stops (search_of labels.old.kind.0) (arcs_wide 8 graph.now.table.now) graph.now.n ordering.now) }
+    ensures kind { labels.new.kind ≡ labels.old.kind }
+    ensures staged { Staged (search_of labels.old.kind.0) graph.now.table.now graph.now.n ordering.now result
+        labels.new.words labels.new.smallest labels.new.largest labels.new.weights
+        sets.new.placed sets.new.free sets.new.reached }
 {
     for j in 0..k {
         let b = vertex_at(ordering, Position(j));
-        if is_beaten(kind, labels, weights, free, reached, b) {
+        if is_beaten(labels, sets, b) {
             return j;
         }
-        place(
-            kind,
-            mark,
-            table,
-            labels,
-            smallest,
-            largest,
-            weights,
-            placed,
-            free,
-            reached,
-            b,
-            Position(j),
-        );
+        place(graph, labels, sets, b, Position(j));
     }
     k
 }

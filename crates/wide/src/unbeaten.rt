@@ -6,29 +6,24 @@ ghost use Rattle.bitset.specs.Word.{member};
 ghost use Rattle.searches.specs.Kind.{search_of};
 ghost use Rattle.searches.specs.Label.{outranks};
 ghost use Rattle.tables.specs.Rows.{row_of};
-ghost use Rattle.wide.specs.Store.{by_weight, Weighed, Covers, Bare, IsMost, beaten_in, open_in};
+ghost use Rattle.wide.specs.Store.{by_weight, Covers, Bare, IsMost, beaten_in, open_in};
 
 use crate::compare::is_ahead;
+use crate::kept::{Labels, Sets};
 use searches::{Kind, WideVertex};
 use tables::in_set;
 
 // Whether a vertex of `word`, which is word `i` of a set, is ahead of `b`.
-fn beaten_in(
-    kind: Kind,
-    labels: &[u64; 4096],
-    weights: &[u16; 512],
-    word: u64,
-    i: usize,
-    b: WideVertex,
-) -> bool
-    requires { Weighed (search_of kind.0) labels.now weights.now × (i < 8) × (b.0 < 512) }
-    ensures { result ≡ any_below 64 (λ q. member word q && outranks (search_of kind.0) 512 (row_of labels.now (64 * i + q)) (row_of labels.now b.0)) }
+fn beaten_in(labels: &Labels, word: u64, i: usize, b: WideVertex) -> bool
+    requires { (i < 8) × (b.0 < 512) }
+    ensures { result
+        ≡ any_below 64 (λ q. member word q && outranks (search_of labels.now.kind.0) 512 (row_of labels.now.words (64 * i + q)) (row_of labels.now.words b.0)) }
 {
     let below = 64 * i;
     let mut rest = word;
     while rest != 0 {
         let u = (below + bitset::smallest(rest)) as u16;
-        if is_ahead(kind, labels, weights, WideVertex(u), b) {
+        if is_ahead(labels, WideVertex(u), b) {
             return true;
         }
         rest = bitset::without_smallest(rest);
@@ -40,48 +35,38 @@ fn beaten_in(
 pub fn by_weight(kind: Kind) -> bool
     ensures { result ≡ by_weight (search_of kind.0) }
 {
-    let search = kind.0;
-    if search == Kind::LEX_BFS.0 {
+    if kind == Kind::LEX_BFS {
         return false;
     }
-    if search == Kind::LEX_DFS.0 {
+    if kind == Kind::LEX_DFS {
         return false;
     }
-    search != Kind::MNS.0
+    kind != Kind::MNS
 }
 
 // The greatest weight.
 pub fn most_weight(weights: &[u16; 512]) -> u16
-    requires { length weights.now ≡ 512 }
     ensures { IsMost weights.now result }
 {
     let mut most = 0u16;
-    for v in 0..512 {
-        let weight = weights[v];
-        most = if most < weight { weight } else { most };
+    for weight in weights {
+        most = most.max(*weight);
     }
     most
 }
 
 // Whether a vertex of `free` is ahead of `b`. `reached` holds those of `free` whose label is not empty; no other vertex has a label. Where weights alone
 // are compared, nobody outside `free` has one.
-pub fn is_beaten(
-    kind: Kind,
-    labels: &[u64; 4096],
-    weights: &[u16; 512],
-    free: &[u64; 8],
-    reached: &[u64; 8],
-    b: WideVertex,
-) -> bool
-    requires { Weighed (search_of kind.0) labels.now weights.now × Covers labels.now free.now reached.now × Bare labels.now free.now × (b.0 < 512) }
-    ensures { result ≡ beaten_in (search_of kind.0) labels.now free.now b.0 }
+pub fn is_beaten(labels: &Labels, sets: &Sets, b: WideVertex) -> bool
+    requires { Covers labels.now.words sets.now.free sets.now.reached × Bare labels.now.words sets.now.free × (b.0 < 512) }
+    ensures { result ≡ beaten_in (search_of labels.now.kind.0) labels.now.words sets.now.free b.0 }
 {
-    if by_weight(kind) {
-        return weights[b.0 as usize] < most_weight(weights);
+    if by_weight(labels.kind) {
+        return labels.weights[b.0 as usize] < most_weight(&labels.weights);
     }
     for i in 0..8 {
-        let front = bitset::common(free[i], reached[i]);
-        if beaten_in(kind, labels, weights, front, i, b) {
+        let front = bitset::common(sets.free[i], sets.reached[i]);
+        if beaten_in(labels, front, i, b) {
             return true;
         }
     }
@@ -89,19 +74,12 @@ pub fn is_beaten(
 }
 
 // Whether `b` is offered: unplaced, with no unplaced vertex ahead of it.
-pub fn is_open(
-    kind: Kind,
-    labels: &[u64; 4096],
-    weights: &[u16; 512],
-    free: &[u64; 8],
-    reached: &[u64; 8],
-    b: WideVertex,
-) -> bool
-    requires { Weighed (search_of kind.0) labels.now weights.now × Covers labels.now free.now reached.now × Bare labels.now free.now × (b.0 < 512) }
-    ensures { result ≡ open_in (search_of kind.0) labels.now free.now b.0 }
+pub fn is_open(labels: &Labels, sets: &Sets, b: WideVertex) -> bool
+    requires { Covers labels.now.words sets.now.free sets.now.reached × Bare labels.now.words sets.now.free × (b.0 < 512) }
+    ensures { result ≡ open_in (search_of labels.now.kind.0) labels.now.words sets.now.free b.0 }
 {
-    if !in_set(free, b.0 as usize) {
+    if !in_set(&sets.free, b.0 as usize) {
         return false;
     }
-    !is_beaten(kind, labels, weights, free, reached, b)
+    !is_beaten(labels, sets, b)
 }

@@ -2,7 +2,7 @@
 ghost use Rattle.std.specs.Prelude.{◌≤◌};
 
 use notation::{put, show, show_bar};
-use searches::{Kind, Mark, Outcome, Refusal, WideJudgement, WideViolation};
+use searches::{Judgement, Kind, Mark, Refusal, Violation, WideVertex};
 
 fn entry(vertex: u16) -> u64 {
     vertex as u64
@@ -10,18 +10,18 @@ fn entry(vertex: u16) -> u64 {
 
 // Prints the points of a list.
 fn show_points(list: &[u16]) {
-    for p in 0..list.len() {
-        show(entry(list[p]));
+    for point in list {
+        show(entry(*point));
     }
 }
 
 fn show_refusal(refusal: Refusal) {
     put(b' ');
     put(b'r');
-    show(checks::number::number(refusal) as u64);
+    show(refusal as u64);
 }
 
-fn show_triple(violation: WideViolation) {
+fn show_triple(violation: Violation<WideVertex>) {
     put(b' ');
     put(b'f');
     show(entry(violation.a.0));
@@ -34,18 +34,18 @@ fn show_letter(letter: u8) {
     put(letter);
 }
 
-fn show_judgement(judgement: WideJudgement) {
-    match judgement {
-        WideJudgement::Passes => show_letter(b'p'),
-        WideJudgement::Fails(violation) => show_triple(violation),
-        WideJudgement::Refused(refusal) => show_refusal(refusal),
+fn show_judgement(judged: Result<Judgement<WideVertex>, Refusal>) {
+    match judged {
+        Ok(Judgement::Passes) => show_letter(b'p'),
+        Ok(Judgement::Fails(violation)) => show_triple(violation),
+        Err(refusal) => show_refusal(refusal),
     }
 }
 
-fn show_outcome(outcome: Outcome) {
+fn show_outcome(outcome: Result<(), Refusal>) {
     match outcome {
-        Outcome::Done => show_letter(b'd'),
-        Outcome::Refused(refusal) => show_refusal(refusal),
+        Ok(()) => show_letter(b'd'),
+        Err(refusal) => show_refusal(refusal),
     }
 }
 
@@ -63,16 +63,16 @@ pub fn show_plan(
     show(notation::number(mark));
     show(n as u64);
     show(chance);
-    show(notation::wide(pieces));
+    show(u64::from(pieces));
     show(seed);
-    show(notation::wide(damage));
+    show(u64::from(damage));
     show(words as u64);
     put(b'\n');
 }
 
 fn judge(kind: u8, mark: Mark, table: &[u64], walk: &[u16]) {
     put(b'j');
-    show(notation::wide(kind));
+    show(u64::from(kind));
     show_bar();
     show_points(walk);
     show_bar();
@@ -93,9 +93,9 @@ fn fresh(start: &[u16]) -> [u16; 520] {
     for p in 0..520 {
         list[p] = 1000 + p as u16;
     }
-    for p in 0..start.len() {
+    for (p, point) in start.iter().enumerate() {
         if p < 520 {
-            list[p] = start[p];
+            list[p] = *point;
         }
     }
     list
@@ -124,7 +124,7 @@ fn carry_on(
 {
     let mut output = fresh(start);
     put(b'c');
-    show(notation::wide(kind));
+    show(u64::from(kind));
     show(k as u64);
     show(length as u64);
     show_bar();

@@ -32,5 +32,5 @@ pub extern "C" fn vezhanip_timed_wide_carry_on(
     output: &mut [u16],
     k: usize,
 ) -> u64 {
-    code::of_outcome(wide::carry_on(Kind(kind), mark_of(one_way), table, preference, output, k))
+    code::of_carrying_on(wide::carry_on(Kind(kind), mark_of(one_way), table, preference, output, k))
 }

@@ -1,18 +1,20 @@
 -- What is written piece by piece.
---   Putting l at b out i        the first i bytes of b are written from at on;   putting_start, putting_room, putting_next, putting_end
+--   copied_there                bytes copied to their place
 --   number_one, number_two, number_three   a number, digit by digit
 --   Written l at text out end   the text stands from at on, up to end;   written_long, written_more   the list's length, and with a piece behind it
 --   Begun l text out end most   the same at the front of the list, with at most so many bytes;   begun_name, begun_room, begun_more, begun_whole
 --   front_left                  what stands behind a text at the front of a list
 --   clause_short, clauses_whole   words and a number behind them; a sentence made of such clauses
 -- Assumes nothing.
-use mathlib.Core.Path.{◌≡◌, refl, sym, ap, ap₂, ◌∙◌, subst}
-use mathlib.Core.List.{List, [], ◌∷◌, ◌++◌, append_assoc}
+use mathlib.Core.Path.{◌≡◌, sym, ap, ap₂, ◌∙◌}
+use mathlib.Core.List.{List, ◌++◌, append_assoc}
 use Prim.Native.Nat.{ℕ, suc, ◌+◌, ◌/◌, ◌≤◌, ◌<◌}
 use native.Mathlib.Numerals.{add-one}
 use native.Mathlib.Omega.{arith}
-use lib.ListN.{length, set, take, drop, get_or, length-append}
-use lib.Seq.{sets, sets-eq, length-sets, take-suc, length-take-le, take-length}
+use borrow.Rule.Slice.PartMut.{put_mid}
+use lib.ListN.{length, set, take, drop, length-append, take-append-drop}
+use lib.Seq.{sets, sets-eq, length-sets}
+use Rattle.std.proofs.lemmas.Slice.{take-put_mid, drop-put_mid}
 use Rattle.fields.specs.Field.{ones}
 use Rattle.fields.proofs.Writing.{sets_append}
 use Rattle.searches.specs.Kind.{Search}
@@ -23,35 +25,16 @@ use Rattle.wording.specs.Sentence.{name, sentence}
 use Rattle.wording.proofs.Decimals.{decimal_one, decimal_two, decimal_three, short_three}
 use Rattle.wording.proofs.Named.{name_short}
 
--- ---- bytes one after the other
+-- ---- bytes copied to their place
 
-pub record Putting (l : List ℕ) (at : ℕ) (b out : List ℕ) (i : ℕ) : Type 0 where
-  pub upto : i ≤ length b
-  pub written : out ≡ sets l at (take i b)
-
-module _ (l : List ℕ) (at : ℕ) (b : List ℕ) where
-  pub putting_start : Putting l at b l 0
-  putting_start = record { upto = omega arith; written = refl }
-
-  pub putting_room : {out : List ℕ} {i : ℕ} → Putting l at b out i → at + length b ≤ length l → i < length b → at + i < length out
-  putting_room {out} {i} p room h = omega (arith, ap length p.written, length-sets l at (take i b))
-
-  pub putting_next : {out : List ℕ} {i : ℕ} → Putting l at b out i → i < length b → Putting l at b (set out (at + i) (get_or b i 0)) (i + 1)
-  putting_next {out} {i} p h =
-      let next : suc i ≡ i + 1 = omega arith in
-      subst (λ (m : ℕ). Putting l at b (set out (at + i) (get_or b i 0)) m) next (record {
-        upto = h;
-        written =
-            ap (λ (x : List ℕ). set x (at + i) (get_or b i 0)) p.written
-            ∙ ap (λ (m : ℕ). set (sets l at (take i b)) (at + m) (get_or b i 0)) (sym (length-take-le i b p.upto))
-            ∙ sym (sets_append l at (take i b) (get_or b i 0 ∷ []))
-            ∙ ap (λ (x : List ℕ). sets l at x) (sym (take-suc b i 0 h));
-      })
-
-  pub putting_end : {out : List ℕ} {i : ℕ} → Putting l at b out i → length b ≤ i → out ≡ sets l at b
-  putting_end {out} {i} p h =
-      let all : i ≡ length b = omega (arith, p.upto) in
-      p.written ∙ ap (λ (m : ℕ). sets l at (take m b)) all ∙ ap (λ (x : List ℕ). sets l at x) (take-length b)
+pub copied_there : (l : List ℕ) (at : ℕ) (b : List ℕ) {k : ℕ} {now : List ℕ} → at + length b ≤ length l → k ≡ length b → now ≡ b → put_mid at k l now ≡ sets l at b
+copied_there l at b {k} {now} room many same =
+    let end : ℕ = at + length b in
+    let as_many : length now ≡ length b = ap length same in
+    sym (take-append-drop end (put_mid at k l now))
+    ∙ ap₂ (λ (x y : List ℕ). x ++ y) (take-put_mid at k l now end (omega arith) (omega arith)) (drop-put_mid at k l now end (omega arith) (omega arith) (omega arith))
+    ∙ ap (λ (x : List ℕ). take at l ++ x ++ drop end l) same
+    ∙ sym (sets-eq b l at room)
 
 -- ---- the digits of a number
 

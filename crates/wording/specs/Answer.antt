@@ -8,15 +8,15 @@
 --   words_answer kind mark rows barred w out    what is answered                                                              [02: K11]
 --   words_output kind mark rows barred w out    what the output list then holds
 --   told_of                                     an answer of the code as 02's number and value
-use Rattle.std.specs.Prelude.{ℕ, Bool, List, [], ◌∷◌, ◌++◌, ltb, length, drop}
+use Rattle.std.specs.Prelude.{ℕ, Bool, List, [], ◌∷◌, ◌++◌, ltb, length, drop, Result, Ok, Err}
 use Rattle.std.proofs.Math.Option.{Option, none, some}
 use Rattle.searches.specs.Kind.{search_of}
 use Rattle.searches.specs.Violation.{Verdict, passes, fails}
 use Rattle.searches.specs.Violation as verdicts
 use Rattle.searches.specs.Answer.{judge_tests_barring, judge_barring, first_refusal, number}
+use Rattle.searches.specs.declared.Refusal.{Refusal}
 use Rattle.searches.specs.declared.Mark.{Mark}
 use Rattle.wording.specs.Sentence.{sentence}
-use Rattle.wording.specs.declared.InWords.{InWords}
 
 unfoldable pub refused_with : Verdict → Option ℕ
 refused_with passes = none
@@ -56,6 +56,6 @@ module _ (kind : ℕ) (mark : Mark) (rows : List ℕ) (barred : ℕ) (w out : Li
         | some r ↦ out
       ]
 
-unfoldable pub told_of : InWords → Told
-told_of (InWords.Length m) = written m
-told_of (InWords.Refused r) = refused (number r)
+unfoldable pub told_of : Result ℕ Refusal → Told
+told_of (Ok m) = written m
+told_of (Err r) = refused (number r)

@@ -2,11 +2,10 @@
 // ordering and output list there can be.
 #![tactic(auto)]
 
-mod refusal;
 mod table;
 pub mod write;
 
-ghost use Rattle.std.specs.Prelude.{◌≡◌, ◌≤◌, ◌<◌, length};
+ghost use Rattle.std.specs.Prelude.{◌≡◌, ◌≤◌, ◌<◌, length, Ok};
 ghost use Rattle.std.proofs.lemmas.List.Edits.{sets};
 ghost use Rattle.searches.specs.Kind.{search_of};
 ghost use Rattle.searches.specs.Violation.{passes, fails};
@@ -14,17 +13,9 @@ ghost use Rattle.searches.specs.Answer.{verdict_of};
 ghost use Rattle.wording.specs.Sentence.{sentence};
 ghost use Rattle.wording.specs.Answer.{words_answer, words_output, told_of};
 
-use crate::refusal::words_refusal;
 use crate::table::put_name;
 use crate::write::{put, put_clause};
-use searches::{Judgement, Kind, Mark, Outcome, Refusal, Violation};
-
-// What judging in words answers: how many bytes the sentence has, or why there is none.
-#[derive(Clone, Copy)]
-pub enum InWords {
-    Length(usize),
-    Refused(Refusal),
-}
+use searches::{Judgement, Kind, Mark, Refusal, Vertex, Violation};
 
 // Judges an ordering as `engine::judge` does, and writes the judgement in words to the front of `output`: "LexBFS passes." or
 // "LexDFS fails at 2: 1 leads to 3 and not to 2.", where 2, 1 and 3 are the b, a and c of the first violation. Answered is how many bytes the sentence
@@ -37,29 +28,27 @@ pub fn judge_in_words(
     barred: u64,
     ordering: &[u8],
     output: &mut [u8],
-) -> InWords
+) -> Result<usize, Refusal>
     ensures answer { told_of result ≡ words_answer kind.0 mark rows.now barred ordering.now output.old }
     ensures output { output.new ≡ words_output kind.0 mark rows.now barred ordering.now output.old }
 {
-    let judgement = engine::judge(kind, mark, rows, barred, ordering);
-    let checked = words_refusal(judgement, output.len());
-    if let Outcome::Refused(refusal) = checked {
-        return InWords::Refused(refusal);
+    let judgement = engine::judge(kind, mark, rows, barred, ordering)?;
+    if output.len() < 96 {
+        return Err(Refusal::OutputTooShort);
     }
-    let length = write_sentence(kind, judgement, output);
-    InWords::Length(length)
+    let end = write_sentence(kind, judgement, output);
+    Ok(end)
 }
 
-// Writes the sentence for a judgement to the front of `output`, and answers where it ends. A refusal has none.
-fn write_sentence(kind: Kind, judgement: Judgement, output: &mut [u8]) -> usize
+// Writes the sentence for a judgement to the front of `output`, and answers where it ends.
+fn write_sentence(kind: Kind, judgement: Judgement<Vertex>, output: &mut [u8]) -> usize
     requires { (kind.0 < 7) × (96 ≤ length output.old) }
-    ensures output { output.new ≡ sets output.old 0 (sentence (search_of kind.0) (verdict_of judgement)) }
-    ensures end { result ≡ length (sentence (search_of kind.0) (verdict_of judgement)) }
+    ensures output { output.new ≡ sets output.old 0 (sentence (search_of kind.0) (verdict_of (Ok judgement))) }
+    ensures end { result ≡ length (sentence (search_of kind.0) (verdict_of (Ok judgement))) }
 {
     match judgement {
         Judgement::Passes => write_pass(kind, output),
         Judgement::Fails(violation) => write_failure(kind, violation, output),
-        Judgement::Refused(_) => 0,
     }
 }
 
@@ -72,7 +61,7 @@ fn write_pass(kind: Kind, output: &mut [u8]) -> usize
     put(output, name, b" passes.")
 }
 
-fn write_failure(kind: Kind, violation: Violation, output: &mut [u8]) -> usize
+fn write_failure(kind: Kind, violation: Violation<Vertex>, output: &mut [u8]) -> usize
     requires { (kind.0 < 7) × (96 ≤ length output.old) }
     ensures output { output.new ≡ sets output.old 0 (sentence (search_of kind.0) (fails violation.a.0 violation.b.0 violation.c.0)) }
     ensures end { result ≡ length (sentence (search_of kind.0) (fails violation.a.0 violation.b.0 violation.c.0)) }

@@ -12,10 +12,9 @@ pub fn put(output: &mut [u8], at: usize, bytes: &[u8]) -> usize
     ensures output { output.new ≡ sets output.old at bytes.now }
     ensures end { result ≡ at + length bytes.now }
 {
-    for i in 0..bytes.len() {
-        output[at + i] = bytes[i];
-    }
-    at + bytes.len()
+    let end = at + bytes.len();
+    output[at..end].copy_from_slice(bytes);
+    end
 }
 
 // Writes the decimal number of a vertex, which has one digit, two or three.

@@ -4,7 +4,7 @@
 #![tactic(auto)]
 
 use notation::show;
-use searches::{Judgement, Kind, Mark, Outcome, Refusal};
+use searches::{Judgement, Kind, Mark, Refusal, Vertex};
 
 // 2 for more than 64 rows; no other refusal comes here.
 fn number(refusal: Refusal) -> u64 {
@@ -14,18 +14,18 @@ fn number(refusal: Refusal) -> u64 {
     }
 }
 
-fn verdict(judgement: Judgement) -> u64 {
+fn verdict(judgement: Result<Judgement<Vertex>, Refusal>) -> u64 {
     match judgement {
-        Judgement::Passes => 0,
-        Judgement::Fails(_) => 99,
-        Judgement::Refused(refusal) => number(refusal),
+        Ok(Judgement::Passes) => 0,
+        Ok(Judgement::Fails(_)) => 99,
+        Err(refusal) => number(refusal),
     }
 }
 
-fn answer(outcome: Outcome) -> u64 {
+fn answer(outcome: Result<(), Refusal>) -> u64 {
     match outcome {
-        Outcome::Done => 0,
-        Outcome::Refused(refusal) => number(refusal),
+        Ok(()) => 0,
+        Err(refusal) => number(refusal),
     }
 }
 
@@ -45,7 +45,7 @@ fn line(kind: u8) {
     let walk = notation::all_points();
     let crowd = [0u64; 65];
     let nowhere = [0u8; 0];
-    io::print_decimal(1, notation::wide(kind));
+    io::print_decimal(1, u64::from(kind));
     judge(kind, &crowd[..0], &nowhere);
     judge(kind, &rows, &walk);
     judge(kind, &crowd, &nowhere);

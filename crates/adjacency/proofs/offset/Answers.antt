@@ -8,4 +8,4 @@ pub overflow_cast-result : goal.overflow_cast-result
 overflow_cast-result c = omega (arith, c.type_inv.offsets c.args.u)
 
 pub returns : goal.returns
-returns c = refl
+returns c = record { entry = refl; fits = omega (arith, c.type_inv.offsets c.args.u) }

@@ -4,6 +4,7 @@ use mathlib.Core.Path.{◌≡◌, sym, ap, ◌∙◌}
 use mathlib.Core.Option.{none}
 use Prim.Native.Nat.{ℕ, ◌*◌, ◌≤◌}
 use native.Mathlib.Omega.{arith}
+use Rattle.std.proofs.lemmas.Result.{err_from_is_err_and}
 use Rattle.searches.specs.Ordering.{arcs}
 use Rattle.searches.specs.Answer.{first_refusal, refusal_of}
 use Rattle.searches.proofs.Refusals.{none_accepts}
@@ -11,22 +12,22 @@ use Rattle.charge.specs.Charge.{product, charge_tests, Chargeable, cents, bill_o
 use Rattle.cents.specs.Cents.{cents_by, largest_product}
 use Rattle.charge.proofs.Charging.{chargeable_out, length_bounded, entry_bounded, product_bounded, charge_refused, charge_accepted}
 use Rattle.charge.proofs.bill_by.Goals as goal
-use Rattle.charge.proofs.bill_by.Goals.{After-minutes_of-spent, In_default}
+use Rattle.charge.proofs.bill_by.Goals.{After-minutes_of-spent, In_ok-charge_refusal}
 
-pub returns-in-Refused : goal.returns-in-Refused
+pub returns-in_err-charge_refusal : goal.returns-in_err-charge_refusal
 unfolding bill_of refusal_of
-returns-in-Refused c =
+returns-in_err-charge_refusal c =
     let a = c.args in
-    charge_refused a.kind.0 a.mark a.rows.now a.ordering.now a.minutes.now a.rate (cents_by a.halves) _
-    (sym (ap refusal_of c.in-Refused.is) ∙ c.charge_refusal-checked.ensures)
+    let p = err_from_is_err_and c.from_residual.result c.from_residual.ensures.1 in
+    rw (p.1, p.2) (charge_refused a.kind.0 a.mark a.rows.now a.ordering.now a.minutes.now a.rate (cents_by a.halves) _ c.in_err-charge_refusal.ensures)
 
-accepted : (c : In_default)
+accepted : (c : In_ok-charge_refusal)
     → let a = c.args in
     none ≡ first_refusal (charge_tests a.kind.0 a.mark a.rows.now a.ordering.now a.minutes.now a.rate)
 unfolding refusal_of
-accepted c = sym (ap refusal_of c.in_default.is) ∙ c.charge_refusal-checked.ensures
+accepted c = c.in_ok-charge_refusal.ensures
 
-able : (c : In_default)
+able : (c : In_ok-charge_refusal)
     → let a = c.args in
     Chargeable a.kind.0 a.mark a.rows.now a.ordering.now a.minutes.now a.rate
 able c =
@@ -50,7 +51,7 @@ exact c = ap (λ (m : ℕ). m * c.args.rate) c.minutes_of-spent.ensures
 bounded : (c : After-minutes_of-spent) → c.minutes_of-spent.result * c.args.rate ≤ largest_product
 bounded c =
     let a = c.args in
-    omega (arith, exact c, product_bounded a.kind.0 a.mark a.rows.now a.ordering.now a.minutes.now a.rate (able (goal.at.After-minutes_of-spent c).In_default))
+    omega (arith, exact c, product_bounded a.kind.0 a.mark a.rows.now a.ordering.now a.minutes.now a.rate (able (goal.at.After-minutes_of-spent c).In_ok-charge_refusal))
 
 pub overflow_mul-spent : goal.overflow_mul-spent
 overflow_mul-spent c = omega (arith, bounded c)
@@ -63,4 +64,4 @@ unfolding bill_of
 returns c =
     let a = c.args in
     ap (λ (q : ℕ). cents q) (c.cents_by.ensures ∙ ap (cents_by a.halves) (exact (goal.at.returns c).After-minutes_of-spent))
-    ∙ charge_accepted a.kind.0 a.mark a.rows.now a.ordering.now a.minutes.now a.rate (cents_by a.halves) (accepted (goal.at.returns c).In_default)
+    ∙ charge_accepted a.kind.0 a.mark a.rows.now a.ordering.now a.minutes.now a.rate (cents_by a.halves) (accepted (goal.at.returns c).In_ok-charge_refusal)

@@ -1,39 +1,86 @@
--- `charge::charge_refusal` meets its contract: judge's refusal, or after its verdict the first of the tests behind it.
+-- `charge::charge_refusal` meets its contract: judge's refusal, or after its verdict each answer is given after the tests before it were tried. The facts on
+-- the tests are found by what they say, and not by name.
 -- Assumes nothing.
 use mathlib.Core.Path.{◌≡◌, sym, ap, ◌∙◌}
-use lib.ListN.{length}
-use Rattle.searches.specs.Answer.{is_pass, judge_answer, refusal_of, verdict_of}
+use mathlib.Core.Bool.{Bool, false, not}
+use mathlib.Core.List.{List, ◌++◌}
+use Prim.Native.Nat.{ℕ, ◌≤◌}
+use native.Mathlib.Omega.{arith}
+use borrow.Author.Tests.{lt-ltb, le-ltb}
+use lib.ListN.{length, drop}
+use Rattle.std.specs.Prelude.{Ok}
+use Rattle.std.proofs.lemmas.Result.{err_from_is_err_and}
+use Rattle.searches.specs.Kind.{search_of}
+use Rattle.searches.specs.Ordering.{arcs}
+use Rattle.searches.specs.Violation.{judge}
+use Rattle.searches.specs.Answer.{is_pass, judge_tests, judge_answer, number, refusal_of, verdict_of}
+use Rattle.searches.specs.declared.Mark.{Mark}
+use Rattle.searches.specs.declared.Vertex.{Vertex}
+use Rattle.searches.specs.declared.Judgement.{Judgement}
 use Rattle.searches.proofs.NothingBarred.{judge_none}
 use Rattle.checks.proofs.AfterJudge.{judged_refused, passed_decided, failed_decided}
-use Rattle.charge.specs.Charge.{tests_after_judge, charge_tests}
+use Rattle.checks.proofs.Tried.{Tried, tried_one, refused_here, accepted_here}
+use Rattle.charge.specs.Charge.{malformed_minutes, tests_after_judge, charge_tests}
 use Rattle.charge.proofs.charge_refusal.Goals as goal
-use Rattle.charge.proofs.charge_refusal.Goals.{After-judge-judged}
+use Rattle.charge.proofs.charge_refusal.Goals.{In_ok-judgement}
 
--- nothing is barred, so the answer is judge's on the whole graph
-judged : (c : After-judge-judged)
-    → let a = c.args in
-    verdict_of c.judge-judged.result ≡ judge_answer a.kind.0 a.mark a.rows.now a.ordering.now
-judged c = let a = c.args in c.judge-judged.ensures ∙ judge_none a.kind.0 a.mark a.rows.now a.ordering.now
+-- where judge gives a verdict, the tests behind its own answer for all
+decided : (kind : ℕ) (mark : Mark) (rows w : List ℕ) (later : Bool → List (ℕ × Bool)) (j : Judgement Vertex)
+    → verdict_of (Ok j) ≡ judge_answer kind mark rows w
+    → Tried (judge_tests kind mark rows w ++ later (is_pass (judge (search_of kind) (arcs rows) (length rows) w (length w)))) (later (is_pass (verdict_of (Ok j))))
+unfolding verdict_of
+decided kind mark rows w later Judgement.Passes e = record { same = passed_decided kind mark rows w later e }
+decided kind mark rows w later (Judgement.Fails v) e = record { same = failed_decided kind mark rows w later e }
 
-pub returns-in-Passes : goal.returns-in-Passes
-unfolding verdict_of is_pass charge_tests
-returns-in-Passes c =
+abbrev own : In_ok-judgement → List (ℕ × Bool)
+own c = let a = c.args in tests_after_judge (length a.rows.now) a.minutes.now a.rate (is_pass (verdict_of (Ok c.in_ok-judgement.judgement)))
+
+-- the first i of the tests behind judge's do not hold
+abbrev Past : ℕ → In_ok-judgement → Type 0
+Past i c = let a = c.args in Tried (charge_tests a.kind.0 a.mark a.rows.now a.ordering.now a.minutes.now a.rate) (drop i (own c))
+
+past_0 : (c : In_ok-judgement) → Past 0 c
+unfolding charge_tests
+past_0 c =
     let a = c.args in
-    c.refusal_after_judge.ensures
-    ∙ passed_decided a.kind.0 a.mark a.rows.now a.ordering.now (tests_after_judge (length a.rows.now) a.minutes.now a.rate)
-    (sym (ap verdict_of c.in-Passes.is) ∙ judged (goal.at.returns-in-Passes c).After-judge-judged)
+    decided a.kind.0 a.mark a.rows.now a.ordering.now (tests_after_judge (length a.rows.now) a.minutes.now a.rate) c.in_ok-judgement.judgement
+    (c.in_ok-judgement.ensures ∙ judge_none a.kind.0 a.mark a.rows.now a.ordering.now)
+
+past_1 : (c : In_ok-judgement) → malformed_minutes (length c.args.rows.now) c.args.minutes.now ≡ false → Past 1 c
+unfolding tests_after_judge
+past_1 c sound = tried_one (past_0 c) sound
+
+past_2 : (c : In_ok-judgement) → malformed_minutes (length c.args.rows.now) c.args.minutes.now ≡ false → c.args.rate ≤ 99999 → Past 2 c
+unfolding tests_after_judge
+past_2 c sound low = tried_one (past_1 c sound) (le-ltb _ _ low)
+
+-- ---- the answers
+
+pub returns-in_err-judgement : goal.returns-in_err-judgement
+unfolding verdict_of refusal_of charge_tests
+returns-in_err-judgement c =
+    let a = c.args in
+    let p = err_from_is_err_and c.from_residual.result c.from_residual.ensures.1 in
+    rw (p.1, p.2)
+    (judged_refused a.kind.0 a.mark a.rows.now a.ordering.now (tests_after_judge (length a.rows.now) a.minutes.now a.rate) _
+    (c.in_err-judgement.ensures ∙ judge_none a.kind.0 a.mark a.rows.now a.ordering.now))
+
+pub returns-then-malformed : goal.returns-then-malformed
+unfolding tests_after_judge number refusal_of
+returns-then-malformed c = refused_here (past_0 (goal.at.returns-then-malformed c).In_ok-judgement) (sym c.malformed_minutes-malformed.ensures ∙ grind arith)
+
+pub returns-then-above : goal.returns-then-above
+unfolding tests_after_judge number refusal_of
+returns-then-above c = refused_here (past_1 (goal.at.returns-then-above c).In_ok-judgement (grind arith)) (lt-ltb _ _ (omega arith))
 
 pub returns-in-Fails : goal.returns-in-Fails
-unfolding verdict_of is_pass charge_tests
+unfolding tests_after_judge number refusal_of is_pass verdict_of
 returns-in-Fails c =
-    let a = c.args in
-    c.refusal_after_judge-in-Fails.ensures
-    ∙ failed_decided a.kind.0 a.mark a.rows.now a.ordering.now (tests_after_judge (length a.rows.now) a.minutes.now a.rate)
-    (sym (ap verdict_of c.in-Fails.is) ∙ judged (goal.at.returns-in-Fails c).After-judge-judged)
+    refused_here (past_2 (goal.at.returns-in-Fails c).In_ok-judgement (grind arith) (omega arith))
+    (ap (λ (j : Judgement Vertex). not (is_pass (verdict_of (Ok j)))) c.in-Fails.is)
 
-pub returns-in-Refused : goal.returns-in-Refused
-unfolding verdict_of refusal_of charge_tests
-returns-in-Refused c =
-    let a = c.args in
-    judged_refused a.kind.0 a.mark a.rows.now a.ordering.now (tests_after_judge (length a.rows.now) a.minutes.now a.rate) _
-    (sym (ap verdict_of c.in-Refused.is) ∙ judged (goal.at.returns-in-Refused c).After-judge-judged)
+pub returns : goal.returns
+unfolding tests_after_judge number refusal_of is_pass verdict_of
+returns c =
+    accepted_here (tried_one (past_2 (goal.at.returns c).In_ok-judgement (grind arith) (omega arith))
+    (ap (λ (j : Judgement Vertex). not (is_pass (verdict_of (Ok j)))) c.in_default.is))

@@ -1,36 +1,32 @@
--- `charge::malformed_minutes` meets its contract: the list has n entries, and no entry that was passed is above 999.
+-- `charge::malformed_minutes` meets its contract: the list has n entries, and none above 999.
 -- Assumes nothing.
-use Prim.Native.Nat.{◌-◌}
-use mathlib.Core.Path.{sym}
-use mathlib.Core.Logic.{inl, inr}
-use native.Mathlib.Omega.{arith}
-use borrow.Author.Tests.{le-ltb}
-use lib.Dec.{lt→ltb}
-use Rattle.bitset.proofs.Tests.{is_true, is_false}
-use Rattle.bitset.proofs.Passed.{passed_start, passed_more}
-use Rattle.charge.specs.Charge.{malformed_minutes, Malformed}
-use Rattle.charge.proofs.Charging.{malformed_in, malformed_out}
+use mathlib.Core.Path.{◌≡◌, sym, ap, ◌∙◌}
+use mathlib.Core.Bool.{Bool, not, ◌||◌}
+use borrow.Author.Tests.{eq-eqb, ne_eqb}
+use lib.Dec.{ltb}
+use lib.ListN.{length}
+use Rattle.std.proofs.Common.{rules}
+use borrow.Author.Tests.{tests}
+use Rattle.std.proofs.lemmas.Iterator.Search.{any_from_yields_List}
+use Rattle.std.proofs.lemmas.Iterator.{YieldsList-from_slice}
+use Rattle.std.specs.List.{list_any}
+use Rattle.bitset.specs.Below.{any_below}
+use Rattle.searches.specs.Ordering.{at}
+use Rattle.charge.specs.Charge.{malformed_minutes}
+use Rattle.charge.proofs.Chains.{any_listed}
 use Rattle.charge.proofs.malformed_minutes.Goals as goal
 
-pub returns-then-length-n : goal.returns-then-length-n
-returns-then-length-n c = let a = c.args in sym (is_true (malformed_minutes a.n a.minutes.now) (malformed_in a.n a.minutes.now (inl c.if-length-n.true)))
-
-pub loop-v-init : goal.loop-v-init
-loop-v-init c = passed_start _ _
-
-pub returns-then-minutes-v-gt999 : goal.returns-then-minutes-v-gt999
-returns-then-minutes-v-gt999 c =
+pub returns-then-minutes-n : goal.returns-then-minutes-n
+unfolding malformed_minutes
+returns-then-minutes-n c =
     let a = c.args in
-    sym (is_true (malformed_minutes a.n a.minutes.now) (malformed_in a.n a.minutes.now (inr (c.loop-v.v, c.loop-v-test.true, c.if-minutes-v-gt999.true))))
+    let other = ap not (ne_eqb _ _ c.if-minutes-n.true) in
+    other ∙ sym (ap (λ (b : Bool). b || any_below (length a.minutes.now) (λ v. ltb 999 (at a.minutes.now v))) other)
 
-pub loop-v-preserved : goal.loop-v-preserved
-loop-v-preserved c = passed_more c.loop-v.invariant c.loop-v-test.true (le-ltb _ _ c.if-minutes-v-gt999.false)
-
-pub returns : goal.returns
-returns c =
+pub returns-else-minutes-n : goal.returns-else-minutes-n
+unfolding malformed_minutes
+returns-else-minutes-n c =
     let a = c.args in
-    sym (is_false (malformed_minutes a.n a.minutes.now) (λ t. go (malformed_out a.n a.minutes.now t)))
-  where
-    go : Malformed c.args.n c.args.minutes.now → ⊥
-    go (inl other) = other c.if-length-n.false
-    go (inr x) = c.loop-v.invariant.none x.0 (omega (arith, x.1)) (lt→ltb 999 _ x.2)
+    let asked : c.any.result ≡ list_any (λ m. ltb 999 m) a.minutes.now = any_from_yields_List (λ m. ltb 999 m) _ _ _ c.any.ensures.ran (YieldsList-from_slice a.minutes.now cc) (λ x b q k. search (rules, tests)) in
+    asked ∙ any_listed (λ m. ltb 999 m) a.minutes.now
+    ∙ sym (ap (λ (b : Bool). not b || any_below (length a.minutes.now) (λ v. ltb 999 (at a.minutes.now v))) (eq-eqb _ _ c.if-minutes-n.false))

@@ -8,7 +8,7 @@ use Rattle.searches.specs.Answer.{number}
 use Rattle.fields.specs.Field.{line}
 use Rattle.drawing.proofs.Drawn.{part_inside, part_two_way, part_sheet, refusal_sheet, line_long, too_short, enough_room}
 use Rattle.drawing.proofs.sheet_of.Goals as goal
-use Rattle.drawing.proofs.sheet_of.Goals.{In-Points}
+use Rattle.drawing.proofs.sheet_of.Goals.{In-Ok}
 
 pub returns-then-output-lt18159 : goal.returns-then-output-lt18159
 returns-then-output-lt18159 c = let a = c.args in
@@ -17,29 +17,29 @@ returns-then-output-lt18159 c = let a = c.args in
 
 pub slice_bounds-rows-end : goal.slice_bounds-rows-end
 slice_bounds-rows-end c =
-    part_inside c.args.file.now c.in-Points.is c.import-imported.ensures.answer c.import-imported.ensures.rows
+    part_inside c.args.file.now c.in-Ok.is c.import.ensures.answer c.import.ensures.rows
 
 pub slice_bounds-write_plan-end : goal.slice_bounds-write_plan-end
-slice_bounds-write_plan-end c = sym (length-take-le _ _ (slice_bounds-rows-end (goal.at.slice_bounds-write_plan-end c).In-Points))
+slice_bounds-write_plan-end c = sym (length-take-le _ _ (slice_bounds-rows-end (goal.at.slice_bounds-write_plan-end c).In-Ok))
 
 pub write_plan-requires : goal.write_plan-requires
 write_plan-requires c =
-    (part_two_way c.args.file.now c.in-Points.is c.import-imported.ensures.answer c.import-imported.ensures.rows, c.if-output-lt18159.false)
+    (part_two_way c.args.file.now c.in-Ok.is c.import.ensures.answer c.import.ensures.rows, c.if-output-lt18159.false)
 
-pub returns-in-Points : goal.returns-in-Points
-returns-in-Points c =
+pub returns-in-Ok : goal.returns-in-Ok
+returns-in-Ok c =
     let a = c.args in
-    let done = enough_room a.file.now a.output.now c.if-output-lt18159.false (part_sheet a.file.now c.in-Points.is c.import-imported.ensures.answer c.import-imported.ensures.rows) in
+    let done = enough_room a.file.now a.output.now c.if-output-lt18159.false (part_sheet a.file.now c.in-Ok.is c.import.ensures.answer c.import.ensures.rows) in
     record {
       output = c.write_plan.ensures.output ∙ done.0;
       length = c.write_plan.ensures.end ∙ done.1;
     }
 
-pub returns-in-Refused : goal.returns-in-Refused
-returns-in-Refused c =
+pub returns-in-Err : goal.returns-in-Err
+returns-in-Err c =
     let a = c.args in
-    let done = enough_room a.file.now a.output.now c.if-output-lt18159.false (refusal_sheet a.file.now c.in-Refused.is c.import-imported.ensures.answer) in
-    let text : line (c.number-refused.result ∷ []) ≡ line (number _ ∷ []) = ap (λ (x : ℕ). line (x ∷ [])) c.number-refused.ensures in
+    let done = enough_room a.file.now a.output.now c.if-output-lt18159.false (refusal_sheet a.file.now c.in-Err.is c.import.ensures.answer) in
+    let text : line (c.number.result ∷ []) ≡ line (number _ ∷ []) = ap (λ (x : ℕ). line (x ∷ [])) c.number.ensures in
     record {
       output = c.line_of_one.ensures.output ∙ ap (λ (x : List ℕ). sets a.output.now 0 x) text ∙ done.0;
       length = c.line_of_one.ensures.at ∙ line_long _ ∙ done.1;

@@ -10,9 +10,16 @@ use Rattle.filling.proofs.Tail.{Filling}
 use Rattle.filling.proofs.fill.Given as goal
 
 abbrev pub invariant-loop-i : goal.invariant-loop-i
-invariant-loop-i l = Filling (search_of l.kind.0) l.rows l.tie_break l.k l.count l.initial.labels l.initial.moment.free l.initial.tail l.tail l.labels l.moment.free l.i
-    × Along l.rows (l.k + l.i) l.labels l.smallest l.largest l.moment.set l.moment.free × Staged (search_of l.kind.0) l.labels l.weights l.moment (l.k + l.i)
-    × (l.i + count_below 64 (member l.moment.free) ≡ l.count)
+invariant-loop-i g l =
+    let kept = l.labels in
+    let s = search_of l.initial.labels.kind.0 in
+    record {
+      same_kind : kept.kind ≡ l.initial.labels.kind;
+      filling : Filling s (g.G.Graph.rows l.graph) l.tie_break l.k l.count l.initial.labels.words l.initial.moment.free l.initial.tail l.tail kept.words l.moment.free l.i;
+      along : Along (g.G.Graph.rows l.graph) (l.k + l.i) kept.words kept.smallest kept.largest l.moment.set l.moment.free;
+      staged : Staged s kept.words kept.weights l.moment (l.k + l.i);
+      left : l.i + count_below 64 (member l.moment.free) ≡ l.count;
+    }
 
 abbrev pub decreases-loop-i : goal.decreases-loop-i
-decreases-loop-i l = l.count - l.i
+decreases-loop-i g l = l.count - l.i

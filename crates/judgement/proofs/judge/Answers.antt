@@ -9,9 +9,9 @@ use native.Mathlib.Omega.{arith}
 use Rattle.judgement.specs.Judged.{judgement, judgement_in, judgement_length}
 use Rattle.judgement.proofs.judge.Goals as goal
 
-pub returns-then-output-lt147 : goal.returns-then-output-lt147
+pub returns-then-short : goal.returns-then-short
 unfolding judgement_in judgement_length
-returns-then-output-lt147 c =
+returns-then-short c =
     let a = c.args in
     let b = a.sheet.now in
     let out = a.output.now in record {

@@ -10,11 +10,11 @@ use Rattle.sheet.specs.Sheet.{stopped_in}
 use Rattle.judgement.specs.Judged.{judgement}
 use Rattle.judgement.proofs.judge_first.Goals as goal
 
-pub returns-then-bytes-count : goal.returns-then-bytes-count
-returns-then-bytes-count c =
+pub returns-then-all : goal.returns-then-all
+returns-then-all c =
     let written = c.write_judgement in
     let a = c.args in
-    let all = sym (take_all a.count a.bytes.now c.if-bytes-count.true) in
+    let all = sym (take_all a.count a.bytes.now (omega (arith, c.if-all.true))) in
     record {
       output = written.ensures.output ∙ ap (λ (b : List ℕ). sets a.output.now 0 (judgement b)) all;
       length = written.ensures.length ∙ ap (λ (b : List ℕ). length (judgement b)) all;
@@ -22,7 +22,7 @@ returns-then-bytes-count c =
     }
 
 pub slice_bounds-write_judgement-end : goal.slice_bounds-write_judgement-end
-slice_bounds-write_judgement-end c = sym (length-take-le _ _ (omega (arith, c.if-bytes-count.false)))
+slice_bounds-write_judgement-end c = sym (length-take-le _ _ (omega (arith, c.if-all.false)))
 
 pub returns : goal.returns
 returns c = let written = c.write_judgement-2 in

@@ -4,7 +4,7 @@ use Rattle.offers.proofs.Scan.{Scanned}
 use Rattle.offers.proofs.is_beaten.Given as goal
 
 abbrev pub invariant-loop-rest : goal.invariant-loop-rest
-invariant-loop-rest l = Scanned (search_of l.kind.0) l.labels l.free l.mine.label l.rest
+invariant-loop-rest l = Scanned (search_of l.labels.kind.0) l.labels.words l.free l.mine.label l.rest
 
 abbrev pub decreases-loop-rest : goal.decreases-loop-rest
 decreases-loop-rest l = l.rest

@@ -13,11 +13,11 @@ use Rattle.offers.specs.Open.{beaten_in}
 use Rattle.labels.proofs.Profiles.{label_of, profile_own, profile_kept}
 use Rattle.offers.proofs.Scan.{closed_outside, open_unbeaten}
 use Rattle.offers.proofs.is_open.Goals as goal
-use Rattle.offers.proofs.is_open.Goals.{After-profile_of-mine, Else-not-contains}
+use Rattle.offers.proofs.is_open.Goals.{After-profile-mine, Else-not-contains}
 
 pub returns-then-not-contains : goal.returns-then-not-contains
 returns-then-not-contains c =
-    closed_outside (search_of c.args.kind.0) c.args.labels.now c.args.free c.args.v.0
+    closed_outside (search_of c.args.labels.now.kind.0) c.args.labels.now.words c.args.free c.args.v.0
     (said_false (member c.args.free c.args.v.0) c.contains.ensures c.if-not-contains.true)
 
 -- v is one of the free
@@ -26,24 +26,24 @@ inside c =
     let t = said_true (member c.args.free c.args.v.0) c.contains.ensures c.if-not-contains.false in
     (t, member_below 64 c.ranges.free.fits c.args.v.0 t)
 
-pub profile_of-mine-requires : goal.profile_of-mine-requires
-profile_of-mine-requires c = (inside c).1
+pub profile-mine-requires : goal.profile-mine-requires
+profile-mine-requires c = (inside c).1
 
 -- what was looked at of v is the profile of its label
-made : (c : After-profile_of-mine)
+made : (c : After-profile-mine)
     → let a = c.args in
-    c.profile_of-mine.result ≡ profile_of (search_of a.kind.0) (get_or a.labels.now a.v.0 0)
+    c.profile-mine.result ≡ profile_of (search_of a.labels.now.kind.0) (get_or a.labels.now.words a.v.0 0)
 made c =
-    profile_kept (search_of c.args.kind.0) c.requires c.args.v.0 c.profile_of-mine.ensures
+    profile_kept (search_of c.args.labels.now.kind.0) c.args.labels.now.weighed c.args.v.0 c.profile-mine.ensures
 
 pub is_beaten-requires : goal.is_beaten-requires
 is_beaten-requires c =
     let a = c.args in
-    (profile_own (search_of a.kind.0) (get_or a.labels.now a.v.0 0) (made c), c.requires)
+    profile_own (search_of a.labels.now.kind.0) (get_or a.labels.now.words a.v.0 0) (made c)
 
 pub returns : goal.returns
 returns c =
     let a = c.args in
-    let k = search_of a.kind.0 in
-    open_unbeaten k a.labels.now a.free a.v.0 c.is_beaten.result (inside (goal.at.returns c).Else-not-contains).0
-    (c.is_beaten.ensures ∙ ap (beaten_in k a.labels.now a.free) (label_of k (get_or a.labels.now a.v.0 0) (made (goal.at.returns c).After-profile_of-mine)))
+    let k = search_of a.labels.now.kind.0 in
+    open_unbeaten k a.labels.now.words a.free a.v.0 c.is_beaten.result (inside (goal.at.returns c).Else-not-contains).0
+    (c.is_beaten.ensures ∙ ap (beaten_in k a.labels.now.words a.free) (label_of k (get_or a.labels.now.words a.v.0 0) (made (goal.at.returns c).After-profile-mine)))

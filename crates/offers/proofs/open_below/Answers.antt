@@ -14,15 +14,9 @@ pub loop-v-init : goal.loop-v-init
 unfolding set_below
 loop-v-init c = (omega arith, refl)
 
-pub overflow_cast-number : goal.overflow_cast-number
-overflow_cast-number c = omega (arith, c.requires.0)
-
-pub is_open-requires : goal.is_open-requires
-is_open-requires c = c.requires.1
-
 pub loop-v-preserved : goal.loop-v-preserved
 loop-v-preserved c =
-    let test = open_in (search_of c.args.kind.0) c.args.labels.now c.args.free in (
+    let test = open_in (search_of c.args.labels.now.kind.0) c.args.labels.now.words c.args.free in (
       omega arith,
       elim c.if-is_open.branch [
         | then-is_open w ↦ w.set-is ∙ w.insert-set.ensures ∙ set_more test c.loop-v.invariant.1 (sym c.is_open.ensures ∙ w.if-is_open.true)
@@ -34,4 +28,4 @@ pub returns : goal.returns
 returns c =
     let a = c.args in
     let all : c.loop-v.v ≡ a.n = omega (arith, c.loop-v.invariant.0) in
-    c.loop-v.invariant.1 ∙ ap (λ (m : ℕ). set_below m (open_in (search_of a.kind.0) a.labels.now a.free)) all
+    c.loop-v.invariant.1 ∙ ap (λ (m : ℕ). set_below m (open_in (search_of a.labels.now.kind.0) a.labels.now.words a.free)) all

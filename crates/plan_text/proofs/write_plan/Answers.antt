@@ -11,7 +11,7 @@ use Rattle.sheet.specs.Written.{is_link, link_list, lines}
 use Rattle.wording.proofs.Writing.{Written, written_long, written_more}
 use Rattle.plan_text.specs.Text.{head_text, link_text, plan_text}
 use Rattle.plan_text.proofs.Texts.{vertices_few, links_most, text_room}
-use Rattle.plan_text.proofs.Writing.{piece_room, listing_start, listing_room, listing_link, listing_other, listing_length, listing_end}
+use Rattle.plan_text.proofs.Writing.{links_counted, piece_room, listing_start, listing_room, listing_link, listing_other, listing_length, listing_end}
 use Rattle.plan_text.proofs.write_plan.Goals as goal
 use Rattle.plan_text.proofs.write_plan.Goals.{After-link_count, After-write_head-at, At-loop-c, In-loop-c, Start, then-is_link, else-is_link}
 
@@ -34,18 +34,22 @@ head_fits s =
 pub link_count-requires : goal.link_count-requires
 link_count-requires c = few (goal.at.link_count-requires c).Start
 
+-- the links are counted
+links : (c : After-link_count) → c.link_count.result ≡ length (link_list c.args.rows.now)
+links c = links_counted c.args.rows.now c.link_count.ensures
+
 -- the first line is that of the text
 first : (c : After-link_count)
     → let a = c.args in
     let rows = a.rows.now in
     head_text a.format (length rows) c.link_count.result ≡ head_text a.format (length rows) (length (link_list rows))
-first c = let a = c.args in ap (λ (m : ℕ). head_text a.format (length a.rows.now) m) c.link_count.ensures
+first c = let a = c.args in ap (λ (m : ℕ). head_text a.format (length a.rows.now) m) (links c)
 
 pub write_head-at-requires : goal.write_head-at-requires
 write_head-at-requires c =
     let rows = c.args.rows.now in (
       omega (arith, few (goal.at.write_head-at-requires c).Start),
-      omega (arith, c.link_count.ensures, links_most rows c.requires.0),
+      omega (arith, links (goal.at.write_head-at-requires c).After-link_count, links_most rows c.requires.0),
       omega (arith, ap length (first (goal.at.write_head-at-requires c).After-link_count), head_fits (goal.at.write_head-at-requires c).Start),
     )
 

@@ -30,7 +30,8 @@ led c =
 
 pub returns-then-contains : goal.returns-then-contains
 unfolding parent
-returns-then-contains c = first_found c.loop-p.invariant (sym (led (goal.at.returns-then-contains c).After-contains) ∙ c.if-contains.true)
+returns-then-contains c =
+    (first_found c.loop-p.invariant (sym (led (goal.at.returns-then-contains c).After-contains) ∙ c.if-contains.true), c.loop-p-test.true)
 
 pub loop-p-preserved : goal.loop-p-preserved
 loop-p-preserved c =
@@ -38,4 +39,4 @@ loop-p-preserved c =
 
 pub returns : goal.returns
 unfolding parent
-returns c = first_unfound c.loop-p.invariant c.loop-p-test.false
+returns c = sym (first_unfound c.loop-p.invariant c.loop-p-test.false)

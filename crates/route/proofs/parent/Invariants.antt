@@ -6,7 +6,7 @@ use Rattle.searches.specs.Label.{label}
 use Rattle.route.proofs.parent.Given as goal
 
 abbrev pub invariant-loop-p : goal.invariant-loop-p
-invariant-loop-p l = Passed l.position.0 (label (arcs l.rows) l.ordering (at l.ordering l.position.0)) l.p
+invariant-loop-p l = Passed l.q (label (arcs l.rows) l.ordering (at l.ordering l.q)) l.p
 
 abbrev pub decreases-loop-p : goal.decreases-loop-p
 decreases-loop-p l = l.q - l.p

@@ -1,32 +1,38 @@
--- `route::position_of` meets its contract: no position that was passed holds the vertex.
+-- `route::position_of` meets its contract: the chain finds the first position that holds the vertex.
 -- Assumes nothing.
-use Prim.Native.Nat.{ℕ, ◌-◌}
-use mathlib.Core.Path.{◌≡◌, sym, ap, ◌∙◌}
-use borrow.Author.Tests.{eq-eqb, ne_eqb}
+use mathlib.Core.Path.{◌≡◌, subst}
+use Prim.Native.Nat.{ℕ, ◌<◌}
+use borrow.Author.Tests.{tests}
 use lib.Dec.{eqb}
-use Rattle.bitset.proofs.Passed.{passed_start, passed_more, first_found, first_unfound}
-use Rattle.searches.specs.Ordering.{at}
+use lib.ListN.{length}
+use Rattle.std.proofs.Common.{rules}
+use Rattle.std.specs.Prelude.{Option, MatchOption}
+use Rattle.std.proofs.lemmas.Iterator.{YieldsList-from_slice}
+use Rattle.std.proofs.lemmas.Iterator.Search.{position_from_yields_List}
 use Rattle.route.specs.WayBack.{position_of}
+use Rattle.route.proofs.Chains.{found_or_none}
 use Rattle.route.proofs.position_of.Goals as goal
-use Rattle.route.proofs.position_of.Goals.{After-vertex_at}
+use Rattle.route.proofs.position_of.Goals.{After-position}
 
-pub loop-p-init : goal.loop-p-init
-loop-p-init c = passed_start _ _
-
--- what is compared is the vertex at the position
-seen : (c : After-vertex_at)
+found : (c : After-position)
     → let a = c.args in
-    eqb (at a.ordering.now c.loop-p.p) a.vertex.0 ≡ eqb c.vertex_at.result.0 a.vertex.0
-seen c = ap (λ (u : ℕ). eqb u c.args.vertex.0) (sym c.vertex_at.ensures)
-
-pub returns-then-vertex_at-vertex : goal.returns-then-vertex_at-vertex
+    MatchOption c.position.result (position_of a.ordering.now a.vertex.0 ≡ length a.ordering.now)
+    (λ p. (p ≡ position_of a.ordering.now a.vertex.0) × (p < length a.ordering.now))
 unfolding position_of
-returns-then-vertex_at-vertex c = first_found c.loop-p.invariant (seen (goal.at.returns-then-vertex_at-vertex c).After-vertex_at ∙ eq-eqb _ _ c.if-vertex_at-vertex.true)
+found c =
+    let a = c.args in
+    found_or_none (λ u. eqb u a.vertex.0) a.ordering.now
+    (position_from_yields_List (λ u. eqb u a.vertex.0) _ _ c.position.result c.position.ensures.ran (YieldsList-from_slice a.ordering.now cc) (λ x b q k. search (rules, tests)))
 
-pub loop-p-preserved : goal.loop-p-preserved
-loop-p-preserved c =
-    passed_more c.loop-p.invariant c.loop-p-test.true (seen (goal.at.loop-p-preserved c).After-vertex_at ∙ ne_eqb _ _ c.if-vertex_at-vertex.false)
+pub returns-in_err-p : goal.returns-in_err-p
+returns-in_err-p c =
+    let a = c.args in
+    rw c.from_residual.ensures
+    (subst (λ (o : Option ℕ). MatchOption o (position_of a.ordering.now a.vertex.0 ≡ length a.ordering.now) (λ p. (p ≡ position_of a.ordering.now a.vertex.0) × (p < length a.ordering.now)))
+    c.in_err-p.was (found (goal.at.returns-in_err-p c).After-position))
 
 pub returns : goal.returns
-unfolding position_of
-returns c = first_unfound c.loop-p.invariant c.loop-p-test.false
+returns c =
+    let a = c.args in
+    subst (λ (o : Option ℕ). MatchOption o (position_of a.ordering.now a.vertex.0 ≡ length a.ordering.now) (λ p. (p ≡ position_of a.ordering.now a.vertex.0) × (p < length a.ordering.now)))
+    c.in_ok-p.was (found (goal.at.returns c).After-position)

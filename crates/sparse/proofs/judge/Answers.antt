@@ -1,34 +1,39 @@
 -- `sparse::judge` meets its contract: refused as the checks say, else the verdict.
 -- Assumes nothing.
-use mathlib.Core.Path.{◌≡◌, sym, ap, ◌∙◌}
+use mathlib.Core.Path.{◌≡◌, ◌∙◌}
 use mathlib.Core.Option.{none}
-use Rattle.searches.specs.Answer.{first_refusal, verdict_of, refusal_of}
+use lib.ListN.{length}
+use Rattle.std.proofs.lemmas.Result.{err_from_is_err_and}
+use Rattle.searches.specs.Answer.{unbarred, first_refusal, verdict_of, refusal_of}
+use Rattle.searches.specs.Kind.{search_of}
 use Rattle.sparse.specs.Judge.{judge_tests_listed}
-use Rattle.sparse.proofs.Same.{asked_refused, asked_judgeable, asked_verdict}
+use Rattle.sparse.proofs.Same.{without_same, asked_refused, asked_judgeable, asked_verdict}
 use Rattle.sparse.proofs.judge.Goals as goal
-use Rattle.sparse.proofs.judge.Goals.{In_default}
+use Rattle.sparse.proofs.judge.Goals.{In_ok-layout}
 
-pub judge_refusal-checked-requires : goal.judge_refusal-checked-requires
-judge_refusal-checked-requires c = tt
-
-pub returns-in-Refused : goal.returns-in-Refused
+pub returns-in_err-layout : goal.returns-in_err-layout
 unfolding verdict_of refusal_of
-returns-in-Refused c =
+returns-in_err-layout c =
     let a = c.args in
-    asked_refused a.kind.0 a.mark a.barred a.ordering.now a.offsets.now a.neighbours.now (sym (ap refusal_of c.in-Refused.is) ∙ c.judge_refusal-checked.ensures)
+    let p = err_from_is_err_and c.from_residual.result c.from_residual.ensures.1 in
+    rw (p.1, p.2) (asked_refused a.kind.0 a.mark a.barred a.ordering.now a.offsets.now a.neighbours.now c.in_err-layout.ensures.refusal)
 
-accepted : (c : In_default)
+accepted : (c : In_ok-layout)
     → let a = c.args in
     none ≡ first_refusal (judge_tests_listed a.kind.0 a.mark a.offsets.now a.neighbours.now a.barred a.ordering.now)
 unfolding refusal_of
-accepted c = sym (ap refusal_of c.in_default.is) ∙ c.judge_refusal-checked.ensures
+accepted c = c.in_ok-layout.ensures.refusal
 
 pub verdict-requires : goal.verdict-requires
 verdict-requires c =
     let a = c.args in
-    asked_judgeable a.kind.0 a.mark a.barred a.ordering.now a.offsets.now a.neighbours.now (accepted c)
+    let lists = c.in_ok-layout.ensures.lists in
+    rw (lists.0, lists.1) (asked_judgeable a.kind.0 a.mark a.barred a.ordering.now a.offsets.now a.neighbours.now (accepted c))
 
 pub returns : goal.returns
 returns c =
     let a = c.args in
-    c.verdict.ensures ∙ asked_verdict a.kind.0 a.mark a.barred a.ordering.now a.offsets.now a.neighbours.now (accepted (goal.at.returns c).In_default)
+    let lists = c.in_ok-layout.ensures.lists in
+    (rw (lists.0, lists.1) at
+    (c.verdict.ensures ∙ without_same c.in_ok-layout.layout.layout (search_of a.kind.0) (unbarred a.barred) a.ordering.now (length a.ordering.now)))
+    ∙ asked_verdict a.kind.0 a.mark a.barred a.ordering.now a.offsets.now a.neighbours.now (accepted (goal.at.returns c).In_ok-layout)

@@ -2,7 +2,7 @@
 use mathlib.Core.Path.{◌≡◌}
 use mathlib.Core.Bool.{Bool, ◌&&◌}
 use mathlib.Core.List.{List}
-use Prim.Native.Nat.{ℕ, ◌*◌, ◌-◌, ◌≤◌}
+use Prim.Native.Nat.{ℕ, ◌*◌}
 use Rattle.bitset.specs.Below.{count_below}
 use Rattle.searches.specs.Table.{arcs_wide}
 use Rattle.tables.specs.Rows.{in_set}
@@ -12,7 +12,4 @@ abbrev pub both : List ℕ → ℕ → List ℕ → ℕ → Bool
 both table v set u = arcs_wide 8 table v u && in_set set u
 
 abbrev pub invariant-loop-i : goal.invariant-loop-i
-invariant-loop-i l = (l.total ≡ count_below (64 * l.i) (both l.table l.v l.set)) × (l.i ≤ 8)
-
-abbrev pub decreases-loop-i : goal.decreases-loop-i
-decreases-loop-i l = 8 - l.i
+invariant-loop-i l = l.total ≡ count_below (64 * l.i) (both l.table l.v l.set)

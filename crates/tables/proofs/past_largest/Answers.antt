@@ -1,12 +1,8 @@
 -- `tables::past_largest` meets its contract: the zeros above the highest set bit are the numbers behind the last member.
 -- Assumes nothing.
-use native.Mathlib.Omega.{arith}
 use lib.Count.{leading_le}
 use Rattle.tables.proofs.Words.{past_largest}
 use Rattle.tables.proofs.past_largest.Goals as goal
-
-pub overflow_cast-result : goal.overflow_cast-result
-overflow_cast-result c = omega (arith, leading_le 64 c.args.set)
 
 pub overflow_sub-result : goal.overflow_sub-result
 overflow_sub-result c = leading_le 64 c.args.set

@@ -14,7 +14,7 @@ use Rattle.labels.specs.Words.{profile_of, unexcused_in}
 use Rattle.labels.proofs.Profiles.{label_of, profile_own, profile_kept}
 use Rattle.violation.proofs.Searching.{scanned_first, scanned_none}
 use Rattle.violation.proofs.first_by_number.Goals as goal
-use Rattle.violation.proofs.first_by_number.Goals.{After-is_unexcused, After-profile_of, After-smallest-number}
+use Rattle.violation.proofs.first_by_number.Goals.{After-is_unexcused, After-profile, After-smallest-number}
 
 -- the smallest number of what is left is in it
 found : (c : After-smallest-number) → (c.smallest-number.result < 64) × T (member c.loop-rest.rest c.smallest-number.result)
@@ -28,35 +28,35 @@ loop-rest-init c = scan_start _ _ c.ranges.front.fits
 pub overflow_cast-number : goal.overflow_cast-number
 overflow_cast-number c = omega (arith, (found c).0)
 
-pub profile_of-requires : goal.profile_of-requires
-profile_of-requires c = (found c).0
+pub profile-requires : goal.profile-requires
+profile-requires c = (found (goal.at.profile-requires c).After-smallest-number).0
 
 -- what was looked at of it is the profile of its label
-made : (c : After-profile_of)
+made : (c : After-profile)
     → let a = c.args in
-    c.profile_of.result ≡ profile_of (search_of a.kind.0) (get_or a.labels.now c.smallest-number.result 0)
+    c.profile.result ≡ profile_of (search_of a.labels.now.kind.0) (get_or a.labels.now.words c.smallest-number.result 0)
 made c =
-    profile_kept (search_of c.args.kind.0) c.requires.2 c.smallest-number.result c.profile_of.ensures
+    profile_kept (search_of c.args.labels.now.kind.0) c.args.labels.now.weighed c.smallest-number.result c.profile.ensures
 
 pub is_unexcused-requires : goal.is_unexcused-requires
 is_unexcused-requires c =
     let a = c.args in
-    (c.requires.0, profile_own (search_of a.kind.0) (get_or a.labels.now c.smallest-number.result 0) (made c), c.requires.1)
+    (c.requires.0, profile_own (search_of a.labels.now.kind.0) (get_or a.labels.now.words c.smallest-number.result 0) (made c), c.requires.1)
 
 -- whether the smallest number of what is left completes a violation
 answered : (c : After-is_unexcused)
     → let a = c.args in
-    c.is_unexcused.result ≡ unexcused_in (search_of a.kind.0) a.i.0 (get_or a.labels.now c.smallest-number.result 0) a.mine.label
+    c.is_unexcused.result ≡ unexcused_in (search_of a.labels.now.kind.0) a.i.0 (get_or a.labels.now.words c.smallest-number.result 0) a.mine.label
 answered c =
     let a = c.args in
-    let s = search_of a.kind.0 in
+    let s = search_of a.labels.now.kind.0 in
     c.is_unexcused.ensures
-    ∙ ap (λ (x : ℕ). unexcused_in s a.i.0 x a.mine.label) (label_of s (get_or a.labels.now c.smallest-number.result 0) (made (goal.at.After-is_unexcused c).After-profile_of))
+    ∙ ap (λ (x : ℕ). unexcused_in s a.i.0 x a.mine.label) (label_of s (get_or a.labels.now.words c.smallest-number.result 0) (made (goal.at.After-is_unexcused c).After-profile))
 
 pub returns-then-is_unexcused : goal.returns-then-is_unexcused
 returns-then-is_unexcused c =
     let a = c.args in
-    scanned_first (search_of a.kind.0) a.labels.now a.front a.i.0 a.mine.label c.loop-rest.invariant c.smallest-number.ensures (found (goal.at.returns-then-is_unexcused c).After-smallest-number).0 (found (goal.at.returns-then-is_unexcused c).After-smallest-number).1
+    scanned_first (search_of a.labels.now.kind.0) a.labels.now.words a.front a.i.0 a.mine.label c.loop-rest.invariant c.smallest-number.ensures (found (goal.at.returns-then-is_unexcused c).After-smallest-number).0 (found (goal.at.returns-then-is_unexcused c).After-smallest-number).1
     (said_true _ (answered (goal.at.returns-then-is_unexcused c).After-is_unexcused) c.if-is_unexcused.true)
 
 pub loop-rest-smaller : goal.loop-rest-smaller
@@ -71,4 +71,4 @@ loop-rest-preserved c =
 pub returns : goal.returns
 returns c =
     let a = c.args in
-    scanned_none (search_of a.kind.0) a.labels.now a.front a.i.0 a.mine.label c.loop-rest.invariant c.loop-rest-test.false
+    scanned_none (search_of a.labels.now.kind.0) a.labels.now.words a.front a.i.0 a.mine.label c.loop-rest.invariant c.loop-rest-test.false

@@ -7,7 +7,7 @@ use Rattle.labels.specs.Words.{unexcused_in}
 use Rattle.violation.proofs.first_by_number.Given as goal
 
 abbrev pub invariant-loop-rest : goal.invariant-loop-rest
-invariant-loop-rest l = Scanned 64 l.front (λ c. unexcused_in (search_of l.kind.0) l.i.0 (get_or l.labels c 0) l.mine.label) l.rest
+invariant-loop-rest l = Scanned 64 l.front (λ c. unexcused_in (search_of l.labels.kind.0) l.i.0 (get_or l.labels.words c 0) l.mine.label) l.rest
 
 abbrev pub decreases-loop-rest : goal.decreases-loop-rest
 decreases-loop-rest l = l.rest

@@ -1,6 +1,5 @@
 -- `violation::first_by_position` meets its contract: no position that was passed has a vertex that completes a violation.
 -- Assumes nothing.
-use Prim.Native.Nat.{◌-◌}
 use mathlib.Core.Path.{◌≡◌, sym, ◌∙◌}
 use native.Mathlib.Omega.{arith}
 use Rattle.bitset.proofs.Passed.{passed_more, first_found, first_unfound}
@@ -13,22 +12,19 @@ use Rattle.violation.proofs.first_by_position.Goals.{After-completes}
 pub loop-p-init : goal.loop-p-init
 loop-p-init c =
     let a = c.args in
-    (behind_start (search_of a.kind.0) a.labels.now a.front a.i.0 a.mine.label a.ordering.now a.j.0 a.k c.requires.0.inside, omega arith)
-
-pub vertex_at-c-requires : goal.vertex_at-c-requires
-vertex_at-c-requires c = omega (arith, c.requires.0.long)
+    (behind_start (search_of a.labels.now.kind.0) a.labels.now.words a.front a.i.0 a.mine.label a.ordering.now a.j.0 a.k c.requires.0.inside, omega arith)
 
 pub completes-requires : goal.completes-requires
-completes-requires c = (c.requires.0.bit, c.requires.1, c.requires.2)
+completes-requires c = (c.requires.0.bit, c.requires.1)
 
 -- what was answered of the vertex at p is the test
 answered : (c : After-completes)
     → let a = c.args in
     c.completes.result
-    ≡ behind_in (search_of a.kind.0) a.labels.now a.front a.i.0 a.mine.label a.ordering.now a.j.0 c.loop-p.p
+    ≡ behind_in (search_of a.labels.now.kind.0) a.labels.now.words a.front a.i.0 a.mine.label a.ordering.now a.j.0 c.loop-p.p
 answered c =
     let a = c.args in
-    behind_same (search_of a.kind.0) a.labels.now a.front a.i.0 a.mine.label a.ordering.now a.j.0 c.loop-p.p c.loop-p.invariant.1
+    behind_same (search_of a.labels.now.kind.0) a.labels.now.words a.front a.i.0 a.mine.label a.ordering.now a.j.0 c.loop-p.p c.loop-p.invariant.1
     c.vertex_at-c.ensures c.completes.ensures
 
 pub returns-then-completes : goal.returns-then-completes

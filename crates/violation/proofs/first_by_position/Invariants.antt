@@ -6,7 +6,7 @@ use Rattle.violation.specs.Fault.{behind_in}
 use Rattle.violation.proofs.first_by_position.Given as goal
 
 abbrev pub invariant-loop-p : goal.invariant-loop-p
-invariant-loop-p l = Passed l.k (behind_in (search_of l.kind.0) l.labels l.front l.i.0 l.mine.label l.ordering l.middle) l.p × (l.middle < l.p)
+invariant-loop-p l = Passed l.k (behind_in (search_of l.labels.kind.0) l.labels.words l.front l.i.0 l.mine.label l.ordering l.fn.j.0) l.p × (l.fn.j.0 < l.p)
 
 abbrev pub decreases-loop-p : goal.decreases-loop-p
 decreases-loop-p l = l.k - l.p

@@ -1,6 +1,6 @@
 -- `violation::first_first` meets its contract: no position that was passed starts a violation.
 -- Assumes nothing.
-use Prim.Native.Nat.{ℕ, ◌-◌, ◌<◌, ◌≤◌}
+use Prim.Native.Nat.{ℕ, ◌<◌, ◌≤◌}
 use mathlib.Core.Path.{◌≡◌, ap, ◌∙◌}
 use native.Mathlib.Omega.{arith}
 use lib.Dec.{T}
@@ -13,62 +13,53 @@ use Rattle.labels.proofs.Profiles.{label_of, profile_own, profile_kept}
 use Rattle.violation.specs.Fault.{first_in}
 use Rattle.violation.proofs.Completing.{front_at, first_there, first_nowhere}
 use Rattle.violation.proofs.first_first.Goals as goal
-use Rattle.violation.proofs.first_first.Goals.{After-first_by_number-c, After-profile_of-mine}
+use Rattle.violation.proofs.first_first.Given.{Over}
+use Rattle.violation.proofs.first_first.Goals.{After-first_by_number-c, After-profile-mine}
 
-pub vertex_at-b-requires : goal.vertex_at-b-requires
-vertex_at-b-requires c = omega (arith, c.requires.inside, c.requires.long)
-
-pub profile_of-mine-requires : goal.profile_of-mine-requires
-profile_of-mine-requires c =
+pub profile-mine-requires : goal.profile-mine-requires
+profile-mine-requires g c =
     omega (arith, c.vertex_at-b.ensures, c.requires.small, c.requires.vertices c.args.j.0 c.requires.inside)
 
 -- what was looked at of the vertex is the profile of its label
-made : (c : After-profile_of-mine)
+made : (g : Over) (c : After-profile-mine g)
     → let a = c.args in
-    c.profile_of-mine.result ≡ profile_of (search_of a.kind.0) (get_or a.labels.now c.vertex_at-b.result.0 0)
-made c =
-    profile_kept (search_of c.args.kind.0) c.requires.weighed c.vertex_at-b.result.0 c.profile_of-mine.ensures
+    c.profile-mine.result ≡ profile_of (search_of a.labels.now.kind.0) (get_or a.labels.now.words c.vertex_at-b.result.0 0)
+made g c =
+    profile_kept (search_of c.args.labels.now.kind.0) c.args.labels.now.weighed c.vertex_at-b.result.0 c.profile-mine.ensures
 
 pub loop-i-init : goal.loop-i-init
-loop-i-init c = passed_start _ _
-
-pub vertex_at-a-requires : goal.vertex_at-a-requires
-vertex_at-a-requires c = omega (arith, c.requires.inside, c.requires.long)
-
-pub front_of-front-requires : goal.front_of-front-requires
-front_of-front-requires c = tt
+loop-i-init g c = passed_start _ _
 
 pub first_by_number-c-requires : goal.first_by_number-c-requires
-first_by_number-c-requires c =
+first_by_number-c-requires g c =
     let a = c.args in (
       omega (arith, c.requires.inside, c.requires.fits, c.requires.small),
-      profile_own (search_of a.kind.0) (get_or a.labels.now c.vertex_at-b.result.0 0) (made (goal.at.first_by_number-c-requires c).After-profile_of-mine),
-      c.requires.weighed,
+      profile_own (search_of a.labels.now.kind.0) (get_or a.labels.now.words c.vertex_at-b.result.0 0) (made g (goal.at.first_by_number-c-requires g c).After-profile-mine),
     )
 
 -- what the search by number says of position i
-starts : (c : After-first_by_number-c)
+starts : (g : Over) (c : After-first_by_number-c g)
     → let a = c.args in
-    let test = first_in (search_of a.kind.0) a.rows.now a.ordering.now a.labels.now a.free a.j.0 a.k c.loop-i.i in
+    let test = first_in (search_of a.labels.now.kind.0) (g.G.Graph.rows a.graph) a.ordering.now a.labels.now.words a.free a.j.0 a.k c.loop-i.i in
     (c.first_by_number-c.result.0 < 64 → T test) × (64 ≤ c.first_by_number-c.result.0 → T test → ⊥)
-starts c =
+starts g c =
     let a = c.args in
-    let k = search_of a.kind.0 in
-    let front = front_at a.rows.now a.ordering.now a.free c.loop-i.i a.j.0 c.vertex_at-a.ensures c.vertex_at-b.ensures c.front_of-front.ensures in
+    let k = search_of a.labels.now.kind.0 in
+    let front = front_at (g.G.Graph.rows a.graph) a.ordering.now a.free c.loop-i.i a.j.0 c.vertex_at-a.ensures c.vertex_at-b.ensures c.front_of-front.ensures in
     let mine =
-    label_of k (get_or a.labels.now c.vertex_at-b.result.0 0) (made (goal.at.After-first_by_number-c c).After-profile_of-mine) ∙ ap (λ (v : ℕ). get_or a.labels.now v 0) c.vertex_at-b.ensures
+    label_of k (get_or a.labels.now.words c.vertex_at-b.result.0 0) (made g (goal.at.After-first_by_number-c g c).After-profile-mine) ∙ ap (λ (v : ℕ). get_or a.labels.now.words v 0) c.vertex_at-b.ensures
     in (
-      first_there k a.rows.now a.ordering.now a.labels.now a.free a.k a.j.0 c.loop-i.i front mine c.requires c.first_by_number-c.ensures,
-      first_nowhere k a.rows.now a.ordering.now a.labels.now a.free a.k a.j.0 c.loop-i.i front mine c.requires c.first_by_number-c.ensures,
+      first_there k (g.G.Graph.rows a.graph) a.ordering.now a.labels.now.words a.free a.k a.j.0 c.loop-i.i front mine c.requires c.first_by_number-c.ensures,
+      first_nowhere k (g.G.Graph.rows a.graph) a.ordering.now a.labels.now.words a.free a.k a.j.0 c.loop-i.i front mine c.requires c.first_by_number-c.ensures,
     )
 
 pub returns-then-c-lt64 : goal.returns-then-c-lt64
-returns-then-c-lt64 c =
-    first_found c.loop-i.invariant (is_true _ ((starts (goal.at.returns-then-c-lt64 c).After-first_by_number-c).0 c.if-c-lt64.true))
+returns-then-c-lt64 g c =
+    first_found c.loop-i.invariant (is_true _ ((starts g (goal.at.returns-then-c-lt64 g c).After-first_by_number-c).0 c.if-c-lt64.true))
 
 pub loop-i-preserved : goal.loop-i-preserved
-loop-i-preserved c =
-    passed_more c.loop-i.invariant c.loop-i-test.true (is_false _ ((starts (goal.at.loop-i-preserved c).After-first_by_number-c).1 c.if-c-lt64.false))
+loop-i-preserved g c =
+    passed_more c.loop-i.invariant c.loop-i-test.true (is_false _ ((starts g (goal.at.loop-i-preserved g c).After-first_by_number-c).1 c.if-c-lt64.false))
 
 pub returns : goal.returns
-returns c = first_unfound c.loop-i.invariant c.loop-i-test.false
+returns g c = first_unfound c.loop-i.invariant c.loop-i-test.false

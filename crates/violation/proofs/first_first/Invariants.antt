@@ -6,7 +6,7 @@ use Rattle.violation.specs.Fault.{first_in}
 use Rattle.violation.proofs.first_first.Given as goal
 
 abbrev pub invariant-loop-i : goal.invariant-loop-i
-invariant-loop-i l = Passed l.middle (first_in (search_of l.kind.0) l.rows l.ordering l.labels l.free l.j.0 l.k) l.i
+invariant-loop-i g l = Passed l.j.0 (first_in (search_of l.labels.kind.0) (g.G.Graph.rows l.graph) l.ordering l.labels.words l.free l.j.0 l.k) l.i
 
 abbrev pub decreases-loop-i : goal.decreases-loop-i
-decreases-loop-i l = l.middle - l.i
+decreases-loop-i g l = l.j.0 - l.i

@@ -8,17 +8,17 @@ use Rattle.violation.proofs.first_last.Goals as goal
 pub first_by_position-position-requires : goal.first_by_position-position-requires
 first_by_position-position-requires c = c.requires
 
-pub returns-then-position-k : goal.returns-then-position-k
-returns-then-position-k c =
+pub returns-then-found : goal.returns-then-found
+returns-then-found c =
     let a = c.args in
-    last_by_position (search_of a.kind.0) a.labels.now a.front a.i.0 a.mine.label a.ordering.now a.j.0 a.k c.first_by_position-position.ensures
+    last_by_position (search_of a.labels.now.kind.0) a.labels.now.words a.front a.i.0 a.mine.label a.ordering.now a.j.0 a.k c.first_by_position-position.ensures
     (omega arith) c.vertex_at.ensures
 
 pub first_by_number-requires : goal.first_by_number-requires
-first_by_number-requires c = (c.requires.0.bit, c.requires.1, c.requires.2)
+first_by_number-requires c = (c.requires.0.bit, c.requires.1)
 
 pub returns : goal.returns
 returns c =
     let a = c.args in
-    last_by_number (search_of a.kind.0) a.labels.now a.front a.i.0 a.mine.label a.ordering.now a.j.0 a.k c.first_by_position-position.ensures
+    last_by_number (search_of a.labels.now.kind.0) a.labels.now.words a.front a.i.0 a.mine.label a.ordering.now a.j.0 a.k c.first_by_position-position.ensures
     (omega arith) c.first_by_number.ensures

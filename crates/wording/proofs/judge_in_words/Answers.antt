@@ -1,75 +1,101 @@
 -- `wording::judge_in_words` meets its contract: refused as the tests say, else the sentence is written.
 -- Assumes nothing.
-use mathlib.Core.Path.{◌≡◌, sym, ap, ◌∙◌}
-use mathlib.Core.Option.{none}
-use Prim.Native.Nat.{◌≤◌}
+use mathlib.Core.Path.{◌≡◌, refl, sym, ap, ◌∙◌}
+use mathlib.Core.Option.{Option, none}
+use Prim.Native.Nat.{ℕ, ◌≤◌}
+use borrow.Author.Tests.{lt-ltb, le-ltb}
 use lib.ListN.{length}
 use lib.Seq.{sets}
+use Rattle.std.specs.Prelude.{Ok}
+use Rattle.std.proofs.lemmas.Result.{err_from_is_err_and}
 use Rattle.searches.specs.Kind.{search_of}
 use Rattle.searches.specs.Violation.{Verdict}
-use Rattle.searches.specs.Answer.{judge_barring, first_refusal, refusal_of, verdict_of}
+use Rattle.searches.specs.Answer.{judge_barring, first_refusal, number, verdict_of}
+use Rattle.searches.specs.declared.Judgement.{Judgement}
+use Rattle.searches.specs.declared.Vertex.{Vertex}
 use Rattle.searches.proofs.Refusals.{none_accepts}
+use Rattle.checks.proofs.Tried.{Tried, tried_one, refused_here, accepted_here}
 use Rattle.wording.specs.Sentence.{sentence, Decided}
 use Rattle.wording.specs.Answer.{refused_with, earlier, room_tests, words_tests, in_words, written, told_of}
 use Rattle.wording.proofs.Writing.{front_left}
 use Rattle.wording.proofs.Telling.{decided_accepts, kind_named, words_first, accepted_out, words_refused, words_accepted, room_enough}
 use Rattle.wording.proofs.judge_in_words.Goals as goal
-use Rattle.wording.proofs.judge_in_words.Goals.{After-judge-judgement, After-words_refusal-checked, After-write_sentence-length, In_default}
+use Rattle.wording.proofs.judge_in_words.Goals.{After-write_sentence-end, Else-output-lt96, In_ok-judgement}
 
-answered : (c : After-judge-judgement)
-    → let a = c.args in
-    verdict_of c.judge-judgement.result ≡ judge_barring a.kind.0 a.mark a.rows.now a.barred a.ordering.now
-answered c = c.judge-judgement.ensures
+-- a verdict is no refusal
+told : (j : Judgement Vertex) (later : Option ℕ) → later ≡ earlier (refused_with (verdict_of (Ok j))) later
+unfolding earlier refused_with verdict_of
+told Judgement.Passes later = refl
+told (Judgement.Fails v) later = refl
 
--- what is checked are the tests
-checked : (c : After-words_refusal-checked)
+-- then the test on the output list answers for all
+past : (c : In_ok-judgement)
     → let a = c.args in
-    refusal_of c.words_refusal-checked.result ≡ first_refusal (words_tests a.kind.0 a.mark a.rows.now a.barred a.ordering.now (length a.output.now))
-checked c =
+    Tried (words_tests a.kind.0 a.mark a.rows.now a.barred a.ordering.now (length a.output.now)) (room_tests (length a.output.now))
+past c =
     let a = c.args in
     let size = length a.output.now in
-    c.words_refusal-checked.ensures ∙ ap (λ (v : Verdict). earlier (refused_with v) (first_refusal (room_tests size))) (answered (goal.at.After-words_refusal-checked c).After-judge-judgement)
-    ∙ words_first a.kind.0 a.mark a.rows.now a.barred a.ordering.now size
+    record {
+      same =
+          told c.in_ok-judgement.judgement (first_refusal (room_tests size))
+          ∙ ap (λ (v : Verdict). earlier (refused_with v) (first_refusal (room_tests size))) c.in_ok-judgement.ensures
+          ∙ words_first a.kind.0 a.mark a.rows.now a.barred a.ordering.now size;
+    }
 
-pub returns-in-Refused : goal.returns-in-Refused
-unfolding refusal_of told_of
-returns-in-Refused c =
+pub returns-in_err-judgement : goal.returns-in_err-judgement
+unfolding earlier refused_with verdict_of told_of
+returns-in_err-judgement c =
     let a = c.args in
-    let whole = words_refused a.kind.0 a.mark a.rows.now a.barred a.ordering.now a.output.now _ (sym (ap refusal_of c.in-Refused.is) ∙ checked (goal.at.returns-in-Refused c).After-words_refusal-checked) in
+    let size = length a.output.now in
+    let p = err_from_is_err_and c.from_residual.result c.from_residual.ensures.1 in
+    let whole =
+    words_refused a.kind.0 a.mark a.rows.now a.barred a.ordering.now a.output.now _
+    (ap (λ (v : Verdict). earlier (refused_with v) (first_refusal (room_tests size))) c.in_err-judgement.ensures
+    ∙ words_first a.kind.0 a.mark a.rows.now a.barred a.ordering.now size)
+    in
+    record { answer = rw (p.1, p.2) whole.0; output = whole.1 }
+
+pub returns-then-output-lt96 : goal.returns-then-output-lt96
+unfolding room_tests number told_of
+returns-then-output-lt96 c =
+    let a = c.args in
+    let whole =
+    words_refused a.kind.0 a.mark a.rows.now a.barred a.ordering.now a.output.now 10
+    (refused_here (past (goal.at.returns-then-output-lt96 c).In_ok-judgement) (lt-ltb _ _ c.if-output-lt96.true))
+    in
     record { answer = whole.0; output = whole.1 }
 
-accepted : (c : In_default)
+accepted : (c : Else-output-lt96)
     → let a = c.args in
     none ≡ first_refusal (words_tests a.kind.0 a.mark a.rows.now a.barred a.ordering.now (length a.output.now))
-unfolding refusal_of
-accepted c = sym (ap refusal_of c.in_default.is) ∙ checked (goal.at.In_default c).After-words_refusal-checked
+unfolding room_tests
+accepted c = accepted_here (tried_one (past (goal.at.Else-output-lt96 c).In_ok-judgement) (le-ltb _ _ c.if-output-lt96.false))
 
 -- judge gives a verdict, and there is room
-able : (c : In_default)
+able : (c : Else-output-lt96)
     → let a = c.args in
     Decided (judge_barring a.kind.0 a.mark a.rows.now a.barred a.ordering.now) × (96 ≤ length a.output.now)
 able c =
     let a = c.args in
     accepted_out a.kind.0 a.mark a.rows.now a.barred a.ordering.now (length a.output.now) (none_accepts _ (sym (accepted c)))
 
-pub write_sentence-length-requires : goal.write_sentence-length-requires
-write_sentence-length-requires c =
-    let a = c.args in (
-      kind_named a.kind.0 a.mark a.rows.now a.barred a.ordering.now
-          (decided_accepts a.kind.0 a.mark a.rows.now a.barred a.ordering.now (able (goal.at.write_sentence-length-requires c).In_default).0),
-      (able (goal.at.write_sentence-length-requires c).In_default).1,
-    )
+pub write_sentence-end-requires : goal.write_sentence-end-requires
+write_sentence-end-requires c =
+    let a = c.args in
+    let x = able (goal.at.write_sentence-end-requires c).Else-output-lt96 in
+    (kind_named a.kind.0 a.mark a.rows.now a.barred a.ordering.now (decided_accepts a.kind.0 a.mark a.rows.now a.barred a.ordering.now x.0), x.1)
 
 -- what is written is the sentence for judge's answer
-wrote : (c : After-write_sentence-length)
+wrote : (c : After-write_sentence-end)
     → let a = c.args in
     let said = in_words a.kind.0 a.mark a.rows.now a.barred a.ordering.now in
-    (c.write_sentence-length.new.output ≡ sets a.output.now 0 said) × (c.write_sentence-length.result ≡ length said)
+    (c.write_sentence-end.new.output ≡ sets a.output.now 0 said) × (c.write_sentence-end.result ≡ length said)
 unfolding in_words
 wrote c =
-    let a = c.args in (
-      c.write_sentence-length.ensures.output ∙ ap (λ (v : Verdict). sets a.output.now 0 (sentence (search_of a.kind.0) v)) (answered (goal.at.After-write_sentence-length c).After-judge-judgement),
-      c.write_sentence-length.ensures.end ∙ ap (λ (v : Verdict). length (sentence (search_of a.kind.0) v)) (answered (goal.at.After-write_sentence-length c).After-judge-judgement),
+    let a = c.args in
+    let is = c.in_ok-judgement.ensures in (
+      c.write_sentence-end.ensures.output ∙ ap (λ (v : Verdict). sets a.output.now 0 (sentence (search_of a.kind.0) v)) is,
+      c.write_sentence-end.ensures.end ∙ ap (λ (v : Verdict). length (sentence (search_of a.kind.0) v)) is,
     )
 
 pub returns : goal.returns
@@ -78,9 +104,11 @@ returns c =
     let a = c.args in
     let out = a.output.now in
     let said = in_words a.kind.0 a.mark a.rows.now a.barred a.ordering.now in
-    let last = words_accepted a.kind.0 a.mark a.rows.now a.barred a.ordering.now out (accepted (goal.at.returns c).In_default) in
-    let fits = room_enough a.kind.0 a.mark a.rows.now a.barred a.ordering.now out (none_accepts _ (sym (accepted (goal.at.returns c).In_default))) in
+    let none_refused = accepted (goal.at.returns c).Else-output-lt96 in
+    let last = words_accepted a.kind.0 a.mark a.rows.now a.barred a.ordering.now out none_refused in
+    let fits = room_enough a.kind.0 a.mark a.rows.now a.barred a.ordering.now out (none_accepts _ (sym none_refused)) in
+    let x = wrote (goal.at.returns c).After-write_sentence-end in
     record {
-      answer = ap written (wrote (goal.at.returns c).After-write_sentence-length).1 ∙ last.0;
-      output = (wrote (goal.at.returns c).After-write_sentence-length).0 ∙ front_left out said fits ∙ last.1;
+      answer = ap written x.1 ∙ last.0;
+      output = x.0 ∙ front_left out said fits ∙ last.1;
     }

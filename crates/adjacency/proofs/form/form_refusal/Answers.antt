@@ -34,14 +34,14 @@ not_empty : (c : Else-count-eq0) → eqb (length (offsets_of (goal.at.Else-count
 not_empty c = ne_eqb _ _ c.if-count-eq0.false
 
 starts : (c : Else-offset-ne0) → not (eqb (at (offsets_of (goal.at.Else-offset-ne0 c).Start) 0) 0) ≡ false
-starts c = ap not (eq-eqb _ _ (sym c.offset.ensures ∙ c.if-offset-ne0.false))
+starts c = ap not (eq-eqb _ _ (sym c.offset.ensures.entry ∙ c.if-offset-ne0.false))
 
 rises : (c : Else-fall) → any_below (size_of (offsets_of (goal.at.Else-fall c).Start)) (falls_at (offsets_of (goal.at.Else-fall c).Start)) ≡ false
 rises c = sym c.fall.ensures ∙ c.if-fall.false
 
 ends : (c : Else-offset-length) → not (eqb (at (offsets_of (goal.at.Else-offset-length c).Start) (size_of (offsets_of (goal.at.Else-offset-length c).Start))) (length (neighbours_of (goal.at.Else-offset-length c).Start))) ≡ false
 unfolding size_of
-ends c = ap not (eq-eqb _ _ (sym c.offset-2.ensures ∙ c.if-offset-length.false))
+ends c = ap not (eq-eqb _ _ (sym c.offset-2.ensures.entry ∙ c.if-offset-length.false))
 
 past_1 : (c : Else-count-eq0) → Past 1 (goal.at.Else-count-eq0 c).Start
 unfolding form_tests
@@ -74,7 +74,7 @@ returns-then-count-eq0 c = refused_here (tried_none _) (eq-eqb _ _ c.if-count-eq
 
 pub returns-then-offset-ne0 : goal.returns-then-offset-ne0
 unfolding form_tests number refusal_of
-returns-then-offset-ne0 c = refused_here (past_1 (goal.at.returns-then-offset-ne0 c).Else-count-eq0) (ap not (ne_eqb _ _ (λ same. c.if-offset-ne0.true (c.offset.ensures ∙ same))))
+returns-then-offset-ne0 c = refused_here (past_1 (goal.at.returns-then-offset-ne0 c).Else-count-eq0) (ap not (ne_eqb _ _ (λ same. c.if-offset-ne0.true (c.offset.ensures.entry ∙ same))))
 
 pub returns-then-fall : goal.returns-then-fall
 unfolding form_tests number refusal_of
@@ -82,7 +82,7 @@ returns-then-fall c = refused_here (past_2 (goal.at.returns-then-fall c).Else-of
 
 pub returns-then-offset-length : goal.returns-then-offset-length
 unfolding form_tests size_of number refusal_of
-returns-then-offset-length c = refused_here (past_3 (goal.at.returns-then-offset-length c).Else-fall) (ap not (ne_eqb _ _ (λ same. c.if-offset-length.true (c.offset-2.ensures ∙ same))))
+returns-then-offset-length c = refused_here (past_3 (goal.at.returns-then-offset-length c).Else-fall) (ap not (ne_eqb _ _ (λ same. c.if-offset-length.true (c.offset-2.ensures.entry ∙ same))))
 
 pub unsorted-requires : goal.unsorted-requires
 unsorted-requires c = cover c

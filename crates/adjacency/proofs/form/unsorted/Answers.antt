@@ -1,6 +1,6 @@
 -- `adjacency::form::unsorted` meets its contract: the neighbours of no vertex that was passed are unsorted.
 -- Assumes nothing.
-use Prim.Native.Nat.{ℕ, suc, ◌-◌, ◌<◌}
+use Prim.Native.Nat.{ℕ, suc, ◌<◌}
 use mathlib.Core.Path.{◌≡◌, sym, ap, ap₂, ◌∙◌}
 use native.Mathlib.Omega.{arith}
 use native.Mathlib.Numerals.{add-one}
@@ -31,11 +31,11 @@ offset-end-requires c = omega (arith, vertex (goal.at.offset-end-requires c).In-
 -- its list ends at the next offset
 ends : (c : After-offset-end)
     → c.offset-end.result ≡ at c.args.offsets.now (suc c.loop-u.u)
-ends c = c.offset-end.ensures ∙ ap (λ (x : ℕ). at c.args.offsets.now x) (add-one c.loop-u.u)
+ends c = c.offset-end.ensures.entry ∙ ap (λ (x : ℕ). at c.args.offsets.now x) (add-one c.loop-u.u)
 
 pub unsorted_in-requires : goal.unsorted_in-requires
 unsorted_in-requires c =
-    (omega (arith, ends c, c.offset-begin.ensures, c.requires.rises c.loop-u.u (vertex (goal.at.unsorted_in-requires c).In-loop-u)), omega (arith, ends c, offset_inside c.requires (suc c.loop-u.u) (vertex (goal.at.unsorted_in-requires c).In-loop-u)))
+    (omega (arith, ends c, c.offset-begin.ensures.entry, c.requires.rises c.loop-u.u (vertex (goal.at.unsorted_in-requires c).In-loop-u)), omega (arith, ends c, offset_inside c.requires (suc c.loop-u.u) (vertex (goal.at.unsorted_in-requires c).In-loop-u)))
 
 -- what was asked of its list
 told : (c : After-unsorted_in)
@@ -44,7 +44,7 @@ told : (c : After-unsorted_in)
 unfolding unsorted_at
 told c =
     let a = c.args in
-    c.unsorted_in.ensures ∙ ap₂ (λ (x y : ℕ). unsorted_in a.neighbours.now x y) c.offset-begin.ensures (ends (goal.at.After-unsorted_in c).After-offset-end)
+    c.unsorted_in.ensures ∙ ap₂ (λ (x y : ℕ). unsorted_in a.neighbours.now x y) c.offset-begin.ensures.entry (ends (goal.at.After-unsorted_in c).After-offset-end)
 
 pub returns-then-unsorted_in : goal.returns-then-unsorted_in
 unfolding size_of

@@ -1,7 +1,6 @@
 -- `admission::rows::bit_outside` meets its contract: no row that was passed has a bit at or above n.
 -- Assumes nothing.
 use mathlib.Core.Path.{sym, ◌∙◌}
-use Prim.Native.Nat.{◌-◌}
 use Rattle.bitset.proofs.Passed.{passed_start, passed_more, any_found, any_unfound}
 use Rattle.admission.proofs.rows.bit_outside.Goals as goal
 

@@ -2,7 +2,6 @@
 -- Assumes nothing.
 use mathlib.Core.Path.{◌≡◌, sym, ◌∙◌}
 use mathlib.Core.Bool.{false}
-use Prim.Native.Nat.{◌-◌}
 use Rattle.bitset.specs.Below.{any_below}
 use Rattle.bitset.proofs.Passed.{passed_start, passed_more, any_found, any_unfound}
 use Rattle.admission.specs.Checked.{outside_in, one_sided_in}

@@ -1,7 +1,6 @@
 -- `admission::rows::row_one_way` meets its contract: the vertices of the words that were passed have `u` in their rows.
 -- Assumes nothing.
 use mathlib.Core.Path.{sym, ◌∙◌}
-use Prim.Native.Nat.{◌-◌}
 use Rattle.bitset.proofs.Passed.{passed_start, passed_more, any_found, any_unfound}
 use Rattle.tables.proofs.Bits.{any_words}
 use Rattle.admission.proofs.rows.row_one_way.Goals as goal

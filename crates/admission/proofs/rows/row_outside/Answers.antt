@@ -1,28 +1,13 @@
 -- `admission::rows::row_outside` meets its contract: no word that was passed has a bit at or above n.
 -- Assumes nothing.
 use mathlib.Core.Path.{◌≡◌, sym, ◌∙◌}
-use Prim.Native.Nat.{◌-◌}
-use native.Mathlib.Omega.{arith}
 use Rattle.bitset.proofs.Passed.{passed_start, passed_more, any_found, any_unfound}
 use Rattle.admission.proofs.Outside.{word_outside, word_outside_lem, outside_by_words}
 use Rattle.admission.proofs.rows.row_outside.Goals as goal
-use Rattle.admission.proofs.rows.row_outside.Goals.{After-any_from, then-below-n, else-below-n}
+use Rattle.admission.proofs.rows.row_outside.Goals.{After-any_from}
 
 pub loop-i-init : goal.loop-i-init
 loop-i-init c = passed_start _ _
-
-pub overflow_mul-u : goal.overflow_mul-u
-overflow_mul-u c = omega (arith, c.requires.0.small, c.requires.1)
-
-pub overflow_add-u : goal.overflow_add-u
-overflow_add-u c = omega (arith, c.requires.0.small, c.requires.1, c.loop-i-test.true)
-
-pub bounds-table-u : goal.bounds-table-u
-bounds-table-u c =
-    omega (arith, c.requires.0.whole, c.requires.1, c.loop-i-test.true)
-
-pub any_from-requires : goal.any_from-requires
-any_from-requires c = tt
 
 -- what the call answers is what is asked of the word
 asked : (c : After-any_from)
@@ -32,7 +17,7 @@ asked c =
     let a = c.args in
     c.any_from.ensures
     ∙ word_outside_lem a.n a.table.now a.u c.loop-i.i c.loop-i-test.true
-    (elim c.if-below-n.branch [ then-below-n w ↦ w.from-is | else-below-n w ↦ omega arith ])
+    c.saturating_sub-from.ensures
 
 pub returns-then-any_from : goal.returns-then-any_from
 returns-then-any_from c =

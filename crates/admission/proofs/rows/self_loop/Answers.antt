@@ -1,17 +1,11 @@
 -- `admission::rows::self_loop` meets its contract: no vertex that was passed is in its own row.
 -- Assumes nothing.
 use mathlib.Core.Path.{sym, ◌∙◌}
-use Prim.Native.Nat.{◌-◌}
-use native.Mathlib.Omega.{arith}
 use Rattle.bitset.proofs.Passed.{passed_start, passed_more, any_found, any_unfound}
 use Rattle.admission.proofs.rows.self_loop.Goals as goal
 
 pub loop-u-init : goal.loop-u-init
 loop-u-init c = passed_start _ _
-
-pub contains-requires : goal.contains-requires
-contains-requires c =
-    (omega (arith, c.requires.whole, c.loop-u-test.true), omega (arith, c.requires.small, c.loop-u-test.true))
 
 pub returns-then-contains : goal.returns-then-contains
 returns-then-contains c = any_found _ _ c.loop-u-test.true (sym c.contains.ensures ∙ c.if-contains.true)

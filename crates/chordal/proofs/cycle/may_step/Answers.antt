@@ -1,6 +1,7 @@
 -- `chordal::cycle::may_step` meets its contract.
 -- Assumes nothing.
-use mathlib.Core.Path.{ap₂}
+use mathlib.Core.Path.{◌≡◌, ap₂}
+use Rattle.std.proofs.Common.{rules}
 use mathlib.Core.Bool.{Bool, not, ◌&&◌, ◌||◌}
 use lib.Dec.{eqb, ltb}
 use Rattle.chordal.specs.Descent.{step, opened}
@@ -10,4 +11,5 @@ pub returns : goal.returns
 unfolding step opened
 returns c =
     let a = c.args in
-    ap₂ (λ (t h : Bool). (eqb a.to.0 a.low.0 || (ltb a.low.0 a.to.0 && not t)) && h) c.joined-chord.ensures c.joined-here.ensures
+    let here : c.eq.result ≡ eqb a.to.0 a.low.0 = search rules in
+    ap₂ (λ (e : Bool) (rest : Bool × Bool). (e || (ltb a.low.0 a.to.0 && not rest.0)) && rest.1) here (ap₂ (λ (t h : Bool). (t, h)) c.joined-chord.ensures c.joined-here.ensures)

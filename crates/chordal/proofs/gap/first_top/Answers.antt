@@ -1,6 +1,6 @@
 -- `chordal::gap::first_top` meets its contract: no position that was passed is the last one of a gap.
 -- Assumes nothing.
-use Prim.Native.Nat.{◌-◌}
+use mathlib.Core.Path.{sym}
 use Rattle.bitset.proofs.Tests.{is_true, is_false}
 use Rattle.bitset.proofs.Passed.{passed_start, passed_more, first_found, first_unfound, some_found, none_found}
 use Rattle.chordal.specs.Descent.{is_top, first_middle, first_top}
@@ -15,7 +15,7 @@ first_middle-requires c = (c.requires, c.loop-l-test.true)
 pub returns-then-first_middle-l : goal.returns-then-first_middle-l
 unfolding is_top first_middle first_top
 returns-then-first_middle-l c =
-    first_found c.loop-l.invariant (is_true _ (some_found _ _ _ c.first_middle.ensures c.if-first_middle-l.true))
+    (first_found c.loop-l.invariant (is_true _ (some_found _ _ _ c.first_middle.ensures c.if-first_middle-l.true)), c.loop-l-test.true)
 
 pub loop-l-preserved : goal.loop-l-preserved
 unfolding is_top first_middle
@@ -24,4 +24,4 @@ loop-l-preserved c =
 
 pub returns : goal.returns
 unfolding first_top
-returns c = first_unfound c.loop-l.invariant c.loop-l-test.false
+returns c = sym (first_unfound c.loop-l.invariant c.loop-l-test.false)

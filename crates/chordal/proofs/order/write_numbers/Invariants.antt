@@ -1,10 +1,6 @@
 -- `chordal::order::write_numbers` meets its contract: one number more each turn.
-use Prim.Native.Nat.{◌-◌, ◌≤◌}
 use Rattle.chordal.proofs.Listing.{Filled}
 use Rattle.chordal.proofs.order.write_numbers.Given as goal
 
 abbrev pub invariant-loop-p : goal.invariant-loop-p
-invariant-loop-p l = (l.p ≤ 64) × Filled (λ v. v) l.initial.list l.list l.p
-
-abbrev pub decreases-loop-p : goal.decreases-loop-p
-decreases-loop-p l = 64 - l.p
+invariant-loop-p l = Filled (λ v. v) l.initial.list l.list l.p

@@ -1,6 +1,6 @@
 -- `conversion::lists::write_lists` meets its contract: each turn writes the neighbours of one vertex, and the offset behind them.
 -- Assumes nothing.
-use Prim.Native.Nat.{suc, ◌-◌, ◌≤◌, ◌<◌}
+use Prim.Native.Nat.{suc, ◌≤◌, ◌<◌}
 use mathlib.Core.Path.{◌≡◌}
 use native.Mathlib.Omega.{arith}
 use lib.ListN.{length}

@@ -2,14 +2,17 @@
 -- Assumes nothing.
 use mathlib.Core.Path.{sym}
 use native.Mathlib.Omega.{arith}
+use mathlib.Core.Logic.{inl, inr}
+use Rattle.bitset.proofs.Tests.{below_or}
 use Rattle.fields.proofs.Fields.{digit_is, digit_low, digit_high}
 use Rattle.fields.proofs.field.digit.Goals as goal
 
-pub returns-then-byte-lt48 : goal.returns-then-byte-lt48
-returns-then-byte-lt48 c = digit_low _ c.if-byte-lt48.true
+pub returns-then-is_ascii_digit : goal.returns-then-is_ascii_digit
+returns-then-is_ascii_digit c = let range = c.if-is_ascii_digit.ensures.cases in sym (digit_is _ (omega (arith, range)) (omega (arith, range)))
 
-pub returns-then-byte-gt57 : goal.returns-then-byte-gt57
-returns-then-byte-gt57 c = digit_high _ c.if-byte-gt57.true
-
-pub returns : goal.returns
-returns c = sym (digit_is _ (omega arith) (omega arith))
+pub returns-else-is_ascii_digit : goal.returns-else-is_ascii_digit
+returns-else-is_ascii_digit c = let range = c.if-is_ascii_digit.ensures.cases in
+    elim (below_or c.args.byte 48) [
+      | inl low ↦ digit_low _ low
+      | inr high ↦ digit_high _ (omega (arith, range))
+    ]

@@ -1,10 +1,6 @@
 -- `firmware::plan::decode` meets its contract.
-use Prim.Native.Nat.{◌-◌}
 use Rattle.firmware.proofs.Reading.{Decoding}
 use Rattle.firmware.proofs.plan.decode.Given as goal
 
 abbrev pub invariant-loop-u : goal.invariant-loop-u
 invariant-loop-u l = Decoding l.plan l.rows l.u
-
-abbrev pub decreases-loop-u : goal.decreases-loop-u
-decreases-loop-u l = l.u-end - l.u

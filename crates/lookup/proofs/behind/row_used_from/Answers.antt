@@ -1,28 +1,24 @@
--- `lookup::behind::row_used_from` meets its contract: no row that was passed is used.
+-- `lookup::behind::row_used_from` meets its contract: `any` over what is behind is any_below.
 -- Assumes nothing.
-use native.Mathlib.Omega.{arith}
-use Rattle.bitset.proofs.Passed.{passed_more, any_found, any_unfound}
-use Rattle.lookup.specs.Unused.{used_from}
-use Rattle.lookup.proofs.Unused.{unused_start, used_there, unused_there}
+use mathlib.Core.Path.{ap, ◌∙◌}
+use mathlib.Core.Bool.{Bool, not}
+use Prim.Native.Nat.{ℕ}
+use lib.Dec.{eqb}
+use lib.ListN.{drop}
+use borrow.Author.Tests.{tests}
+use Rattle.std.proofs.Common.{rules}
+use Rattle.std.proofs.lemmas.Iterator.{YieldsList-from_slice}
+use Rattle.std.proofs.lemmas.Iterator.Search.{any_from_yields_List}
+use Rattle.std.proofs.lemmas.List.{take_rest}
+use Rattle.bitset.specs.Below.{any_below}
+use Rattle.bitset.proofs.Chains.{behind_any}
+use Rattle.lookup.specs.Unused.{used_at, used_from}
 use Rattle.lookup.proofs.behind.row_used_from.Goals as goal
 
-pub loop-u-init : goal.loop-u-init
-loop-u-init c = (omega arith, unused_start c.args.n c.args.rows.now c.requires.0)
-
-pub bounds-rows-u : goal.bounds-rows-u
-bounds-rows-u c = omega (arith, c.requires)
-
-pub returns-then-rows-u-ne0 : goal.returns-then-rows-u-ne0
-unfolding used_from
-returns-then-rows-u-ne0 c =
-    any_found _ _ c.loop-u-test.true (used_there c.args.n c.args.rows.now c.loop-u.invariant.0 c.if-rows-u-ne0.true)
-
-pub loop-u-preserved : goal.loop-u-preserved
-loop-u-preserved c = (
-  omega (arith, c.loop-u.invariant.0),
-  passed_more c.loop-u.invariant.1 c.loop-u-test.true (unused_there c.args.n c.args.rows.now c.loop-u.invariant.0 c.if-rows-u-ne0.false),
-)
-
 pub returns : goal.returns
-unfolding used_from
-returns c = any_unfound c.loop-u.invariant.1 c.loop-u-test.false
+unfolding used_at used_from
+returns c =
+    let used : ℕ → Bool = λ x. not (eqb x 0) in
+    any_from_yields_List used _ _ _ c.any.ensures.ran (YieldsList-from_slice (drop c.args.n c.args.rows.now) (c.iter.ensures.rest ∙ take_rest c.args.rows.now c.args.n))
+    (λ x said _ call. search (rules, tests))
+    ∙ behind_any used 0 c.args.n c.args.rows.now ∙ ap (λ (m : ℕ). any_below m (used_at c.args.n c.args.rows.now)) c.requires.1

@@ -2,30 +2,30 @@
 -- Assumes nothing.
 use mathlib.Core.Path.{◌≡◌, ap, ◌∙◌, subst}
 use mathlib.Core.Bool.{not}
-use Prim.Native.Nat.{ℕ}
+use Prim.Native.Nat.{ℕ, ◌<◌}
 use native.Mathlib.Omega.{arith}
 use lib.Dec.{eqb}
+use lib.Seq.{length-take-le, get_or-take}
+use Rattle.bitset.specs.Word.{inserted}
 use Rattle.lookup.proofs.Seen.{Counted, counted_none, counted_more}
 use Rattle.lookup.proofs.entries.repeated.Goals as goal
 
-pub loop-q-init : goal.loop-q-init
-loop-q-init c = (omega arith, counted_none _)
+pub loop-vertex-init : goal.loop-vertex-init
+loop-vertex-init c = counted_none _
 
-pub overflow_cast-vertex : goal.overflow_cast-vertex
-overflow_cast-vertex c = omega (arith, c.shared_slice_known-in-loop-q-1.given c.loop-q.q)
-
-pub insert-seen-requires : goal.insert-seen-requires
-insert-seen-requires c = tt
-
-pub loop-q-preserved : goal.loop-q-preserved
-loop-q-preserved c =
-    (omega arith, rw c.insert-seen.ensures (counted_more c.loop-q.invariant.1 (c.requires.by_index c.loop-q.q c.loop-q-test.true)))
-
-pub size-requires : goal.size-requires
-size-requires c = tt
+pub loop-vertex-preserved : goal.loop-vertex-preserved
+loop-vertex-preserved c =
+    let list = c.args.list.now in
+    let q = c.loop-vertex.vertex-index in
+    let passed : q < c.args.k = omega (arith, c.loop-vertex-test.true, length-take-le c.args.k list c.requires.k_in_bounds) in
+    let added = c.insert-seen.ensures ∙ ap (inserted c.loop-vertex.seen) (get_or-take c.args.k list q 0 passed) in
+    rw added (counted_more c.loop-vertex.invariant (c.requires.by_index q passed))
 
 pub returns : goal.returns
 returns c =
     let k = c.args.k in
-    let all : c.loop-q.q ≡ k = omega arith in
-    ap (λ (m : ℕ). not (eqb m k)) c.size.ensures ∙ (subst (λ (q : ℕ). Counted c.args.list.now c.loop-q.seen q) all c.loop-q.invariant.1).tells
+    let list = c.args.list.now in
+    let all : c.loop-vertex.vertex-index ≡ k =
+    omega (arith, c.loop-vertex-test.false, c.loop-vertex.auto.vertex-index-end, length-take-le k list c.requires.k_in_bounds)
+    in
+    ap (λ (m : ℕ). not (eqb m k)) c.size.ensures ∙ (subst (λ (q : ℕ). Counted list c.loop-vertex.seen q) all c.loop-vertex.invariant).tells

@@ -1,24 +1,18 @@
--- `lookup::entries::vertex_outside` meets its contract: no entry that was passed is n or more.
+-- `lookup::entries::vertex_outside` meets its contract: `any` over the first entries is any_below.
 -- Assumes nothing.
-use native.Mathlib.Omega.{arith}
-use borrow.Author.Tests.{le-leb, lt-leb}
+use mathlib.Core.Path.{◌∙◌}
+use lib.Dec.{leb}
+use lib.ListN.{take}
+use borrow.Author.Tests.{tests}
+use Rattle.std.proofs.Common.{rules}
+use Rattle.std.proofs.lemmas.Iterator.{YieldsList-from_slice}
+use Rattle.std.proofs.lemmas.Iterator.Search.{any_from_yields_List}
+use Rattle.bitset.proofs.Chains.{first_any}
 use Rattle.searches.specs.Answer.{vertex_outside}
-use Rattle.bitset.proofs.Passed.{passed_start, passed_more, any_found, any_unfound}
 use Rattle.lookup.proofs.entries.vertex_outside.Goals as goal
-
-pub loop-p-init : goal.loop-p-init
-loop-p-init c = passed_start _ _
-
-pub overflow_cast-list : goal.overflow_cast-list
-overflow_cast-list c = omega (arith, c.type_inv.list c.loop-p.p)
-
-pub returns-then-n-list : goal.returns-then-n-list
-unfolding vertex_outside
-returns-then-n-list c = any_found _ _ c.loop-p-test.true (le-leb _ _ c.if-n-list.true)
-
-pub loop-p-preserved : goal.loop-p-preserved
-loop-p-preserved c = passed_more c.loop-p.invariant c.loop-p-test.true (lt-leb _ _ c.if-n-list.false)
 
 pub returns : goal.returns
 unfolding vertex_outside
-returns c = any_unfound c.loop-p.invariant c.loop-p-test.false
+returns c =
+    any_from_yields_List (leb c.args.n) _ _ _ c.any.ensures.ran (YieldsList-from_slice (take c.args.k c.args.list.now) cc) (λ v said _ call. search (rules, tests))
+    ∙ first_any (leb c.args.n) 0 c.args.k c.args.list.now c.requires

@@ -1,15 +1,18 @@
 -- `lookup::rows::differs` meets its contract: what differs in the rows that were passed is in the word.
 -- Assumes nothing.
-use native.Mathlib.Omega.{arith}
-use Rattle.lookup.proofs.Symmetry.{gathered_none, gathered_more, gathered_all}
+use mathlib.Core.Logic.{inl, inr}
+use lib.ListN.{length, length-append}
+use Rattle.std.proofs.Common.{rules}
+use Rattle.lookup.proofs.Symmetry.{comparing_none, comparing_more, comparing_all}
 use Rattle.lookup.proofs.rows.differs.Goals as goal
 
-pub loop-u-init : goal.loop-u-init
-loop-u-init c = gathered_none _ _
+pub loop-row-init : goal.loop-row-init
+loop-row-init c = comparing_none _ _ (search rules) (search rules)
 
-pub loop-u-preserved : goal.loop-u-preserved
-loop-u-preserved c =
-    gathered_more c.loop-u.invariant (omega arith) (c.type_inv.rows c.loop-u.u).fits (c.type_inv.columns c.loop-u.u).fits
+pub loop-row-preserved : goal.loop-row-preserved
+loop-row-preserved c =
+    let steps = c.in-Some.ensures.steps in
+    comparing_more c.loop-row.invariant steps.0 steps.1 (length-append c.loop-row.yielded _) (c.type_inv.rows (length c.loop-row.yielded)).fits (c.type_inv.columns (length c.loop-row.yielded)).fits
 
 pub returns : goal.returns
-returns c = gathered_all c.loop-u.invariant c.loop-u-test.false
+returns c = comparing_all c.loop-row.invariant c.requires (elim c.in-None.ensures.steps [ inl e ↦ inl e.1.0 | inr e ↦ inr e.1.0 ])

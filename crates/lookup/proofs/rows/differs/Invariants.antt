@@ -1,10 +1,7 @@
 -- `lookup::rows::differs` meets its contract: what differs in the rows that were passed is in the word.
-use Prim.Native.Nat.{◌-◌}
-use Rattle.lookup.proofs.Symmetry.{Gathered}
+use lib.ListN.{length}
+use Rattle.lookup.proofs.Symmetry.{Comparing}
 use Rattle.lookup.proofs.rows.differs.Given as goal
 
-abbrev pub invariant-loop-u : goal.invariant-loop-u
-invariant-loop-u l = Gathered l.rows l.columns l.difference l.u
-
-abbrev pub decreases-loop-u : goal.decreases-loop-u
-decreases-loop-u l = l.u-end - l.u
+abbrev pub invariant-loop-row : goal.invariant-loop-row
+invariant-loop-row l = Comparing l.rows l.columns l.difference (length l.yielded) l.row-iterator.a.rest.now l.row-iterator.b.rest.now

@@ -17,7 +17,7 @@ pub record Led (s : Search) (labels : List ℕ) (known rivals best label weight 
   pub leads : (other : s ≢ mns) → Leading s other labels (united known rivals) rest best label
 
 abbrev pub invariant-loop-rest : goal.invariant-loop-rest
-invariant-loop-rest l = Led (search_of l.kind.0) l.labels l.known l.rivals l.best l.label l.weight l.rest
+invariant-loop-rest l = Led (search_of l.labels.kind.0) l.labels.words l.known l.rivals l.best l.label l.weight l.rest
 
 abbrev pub decreases-loop-rest : goal.decreases-loop-rest
 decreases-loop-rest l = l.rest

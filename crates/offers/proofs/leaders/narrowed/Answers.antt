@@ -16,28 +16,27 @@ use Rattle.searches.specs.Kind.{search_of, mns}
 use Rattle.searches.proofs.StrictOrder.{outranks_irreflexive}
 use Rattle.labels.specs.Words.{ahead_in}
 use Rattle.offers.specs.Open.{Level}
-use Rattle.labels.proofs.Comparison.{search_of_mns}
+use Rattle.labels.proofs.Comparison.{is_kind, no_kind, search_of_mns}
 use Rattle.offers.proofs.Reached.{front_word}
 use Rattle.offers.proofs.Narrowing.{none_reached, offers_stay, offers_grown, offers_front}
 use Rattle.offers.proofs.leaders.narrowed.Goals as goal
-use Rattle.offers.proofs.leaders.narrowed.Goals.{After-insert-first, After-smallest, Else-kind, Else-still-ne0, Joined-stay-eq0, Start, then-stay-eq0, else-stay-eq0}
+use Rattle.offers.proofs.leaders.narrowed.Goals.{After-insert-first, After-smallest, Else-eq, Else-still-ne0, Joined-stay-eq0, Start, then-stay-eq0, else-stay-eq0}
 
 -- the search is not MNS
-other : (c : Else-kind) → search_of c.args.kind.0 ≢ mns
-other c = search_of_mns c.args.kind.0 c.if-kind.false
+other : (c : Else-eq) → search_of c.args.labels.now.kind.0 ≢ mns
+other c = search_of_mns c.args.labels.now.kind.0 (no_kind c.args.labels.now.kind.0 5 c.eq.ensures c.if-eq.false)
 
-pub returns-then-kind : goal.returns-then-kind
+pub returns-then-eq : goal.returns-then-eq
 unfolding search_of
-returns-then-kind c = record { word = c.ranges.free.fits; exact = λ not_mns. absurd (not_mns (ap search_of c.if-kind.true)) }
+returns-then-eq c = record { word = c.ranges.free.fits; exact = λ not_mns. absurd (not_mns (ap search_of (is_kind c.args.labels.now.kind.0 5 c.eq.ensures c.if-eq.true))) }
 
 pub leading-requires : goal.leading-requires
 leading-requires c =
     let a = c.args in
-    let k = search_of a.kind.0 in (
-      other (goal.at.leading-requires c).Else-kind,
+    let k = search_of a.labels.now.kind.0 in (
+      other (goal.at.leading-requires c).Else-eq,
       omega arith,
-      subst (λ (x : ℕ). Level k a.labels.now x) (sym c.without-still.ensures) (c.requires.0.level (other (goal.at.leading-requires c).Else-kind)),
-      c.requires.3,
+      subst (λ (x : ℕ). Level k a.labels.now.words x) (sym c.without-still.ensures) (c.requires.0.level (other (goal.at.leading-requires c).Else-eq)),
     )
 
 pub returns-then-still-ne0 : goal.returns-then-still-ne0
@@ -46,7 +45,7 @@ returns-then-still-ne0 c =
     let still = c.without-still.result in
     let word : still < 2 ^ 64 = subst (λ (x : ℕ). x < 2 ^ 64) (sym c.without-still.ensures) (word.difference_word c.ranges.stay.fits a.grown) in
     let first = first_member still word (omega arith) in
-    offers_stay (search_of a.kind.0) a.labels.now a.free a.stay a.grown c.requires.0 (other (goal.at.returns-then-still-ne0 c).Else-kind) still c.leading.result
+    offers_stay (search_of a.labels.now.kind.0) a.labels.now.words a.free a.stay a.grown c.requires.0 (other (goal.at.returns-then-still-ne0 c).Else-eq) still c.leading.result
     (first_below 64 (member still)) c.without-still.ensures first.0 first.1 c.leading.ensures
 
 -- all that stay grew
@@ -65,7 +64,7 @@ pub returns-then-rivals-eq0 : goal.returns-then-rivals-eq0
 returns-then-rivals-eq0 c =
     let a = c.args in
     elim c.if-stay-eq0.branch [
-      | then-stay-eq0 w ↦ none_reached (search_of a.kind.0) a.labels.now a.free a.reached c.ranges.free.fits c.requires.1 (sym w.common-rivals.ensures ∙ sym w.rivals-is ∙ c.if-rivals-eq0.true)
+      | then-stay-eq0 w ↦ none_reached (search_of a.labels.now.kind.0) a.labels.now.words a.free a.reached c.ranges.free.fits c.requires.1 (sym w.common-rivals.ensures ∙ sym w.rivals-is ∙ c.if-rivals-eq0.true)
       | else-stay-eq0 w ↦
           let x = one_stays (goal.at.returns-then-rivals-eq0 c).Start w.if-stay-eq0.false in
           absurd (word.empty_back (sym w.rivals-is ∙ c.if-rivals-eq0.true) (first_below 64 (member a.stay)) (grew (goal.at.returns-then-rivals-eq0 c).Else-still-ne0 (first_below 64 (member a.stay)) x.1))
@@ -101,14 +100,13 @@ pub leading-requires-2 : goal.leading-requires-2
 unfolding ahead_in
 leading-requires-2 c =
     let a = c.args in
-    let k = search_of a.kind.0 in
+    let k = search_of a.labels.now.kind.0 in
     let u = c.smallest.result in (
-      other (goal.at.leading-requires-2 c).Else-kind,
+      other (goal.at.leading-requires-2 c).Else-eq,
       positive c.insert-first.result u (itself c),
-      λ x y _ _ t z ahead. outranks_irreflexive k 64 (member (get_or a.labels.now u 0))
-          (subst (λ (q : ℕ). T (ahead_in k (get_or a.labels.now u 0) (get_or a.labels.now q 0))) (sym (only c y z))
-          (subst (λ (q : ℕ). T (ahead_in k (get_or a.labels.now q 0) (get_or a.labels.now y 0))) (sym (only c x t)) ahead)),
-      c.requires.3,
+      λ x y _ _ t z ahead. outranks_irreflexive k 64 (member (get_or a.labels.now.words u 0))
+          (subst (λ (q : ℕ). T (ahead_in k (get_or a.labels.now.words u 0) (get_or a.labels.now.words q 0))) (sym (only c y z))
+          (subst (λ (q : ℕ). T (ahead_in k (get_or a.labels.now.words q 0) (get_or a.labels.now.words y 0))) (sym (only c x t)) ahead)),
     )
   where
     positive : (x p : ℕ) → T (member x p) → 0 < x
@@ -128,16 +126,16 @@ rivals_all c v =
 pub returns : goal.returns
 returns c =
     let a = c.args in
-    let k = search_of a.kind.0 in
+    let k = search_of a.labels.now.kind.0 in
     let u = c.smallest.result in
     let all = united c.insert-first.result c.if-stay-eq0.rivals in
     elim c.if-stay-eq0.branch [
       | then-stay-eq0 w ↦
-          offers_front k a.labels.now a.free a.reached all c.leading-2.result u c.requires.1 c.requires.2
+          offers_front k a.labels.now.words a.free a.reached all c.leading-2.result u c.requires.1 c.requires.2
           (λ v. rivals_all (goal.at.returns c).After-insert-first v ∙ ap (λ (x : ℕ). member x v) (w.rivals-is ∙ w.common-rivals.ensures)) (first (goal.at.returns c).After-smallest).0
           (subst (λ (b : Bool). T b) (sym (rivals_all (goal.at.returns c).After-insert-first u)) (first (goal.at.returns c).After-smallest).1) c.leading-2.ensures
       | else-stay-eq0 w ↦
           let x = one_stays (goal.at.returns c).Start w.if-stay-eq0.false in
-          offers_grown k a.labels.now a.free a.stay a.grown c.requires.0 (other (goal.at.returns c).Else-kind) all c.leading-2.result (first_below 64 (member a.stay))
+          offers_grown k a.labels.now.words a.free a.stay a.grown c.requires.0 (other (goal.at.returns c).Else-eq) all c.leading-2.result (first_below 64 (member a.stay))
           (λ v. rivals_all (goal.at.returns c).After-insert-first v ∙ ap (λ (y : ℕ). member y v) w.rivals-is) x.0 x.1 (grew (goal.at.returns c).Else-still-ne0) c.leading-2.ensures
     ]

@@ -9,15 +9,15 @@ use Rattle.sheet.specs.declared.reader.Progress.{Progress}
 use Rattle.sheet.proofs.Onward.{after_none, after_one, after_low, after_sound}
 use Rattle.sheet.proofs.reader.advance_by.Goals as goal
 
-pub loop-i-init : goal.loop-i-init
-loop-i-init c = (sym (after_none c.args.progress), omega arith)
+pub loop-init : goal.loop-init
+loop-init c = sym (after_none c.args.progress)
 
 pub advance-progress-requires : goal.advance-progress-requires
 advance-progress-requires c =
     let g = c.args.progress in
-    subst (λ (r : Progress). (r.reader.at < 900000) × Sound r.parsed) (sym c.loop-i.invariant.0)
-    (omega (arith, c.requires.0, c.loop-i-test.true, after_low g c.loop-i.i), after_sound g c.requires.1 c.loop-i.i)
+    subst (λ (r : Progress). (r.reader.at < 900000) × Sound r.parsed) (sym c.loop.invariant)
+    (omega (arith, c.requires.0, c.loop-test.true, after_low g c.loop.counter), after_sound g c.requires.1 c.loop.counter)
 
-pub loop-i-preserved : goal.loop-i-preserved
-loop-i-preserved c =
-    (c.advance-progress.ensures ∙ ap advanced c.loop-i.invariant.0 ∙ after_one c.args.progress c.loop-i.i, omega (arith, c.loop-i-test.true))
+pub loop-preserved : goal.loop-preserved
+loop-preserved c =
+    c.advance-progress.ensures ∙ ap advanced c.loop.invariant ∙ after_one c.args.progress c.loop.counter

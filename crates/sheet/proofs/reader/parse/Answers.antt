@@ -22,12 +22,12 @@ start_sound p none_yet = subst (λ (x : Parsed). Sound x) (sym none_yet) (λ _. 
 
 pub advance_by-whole-requires : goal.advance_by-whole-requires
 advance_by-whole-requires c =
-    let g = start c.args.sheet c.args.parsed in
+    let g = start c.args.sheet c.blank.result in
     subst (λ (r : Progress). (r.reader.at + 13 * r.parsed.rest < 900000) × Sound r.parsed) (sym c.advance_by-first.ensures)
-    (after_few g refl c.requires, after_sound g (start_sound c.args.parsed c.requires) 1)
+    (after_few g refl c.blank.ensures, after_sound g (start_sound c.blank.result c.blank.ensures) 1)
 
 pub returns : goal.returns
 returns c =
-    let g = start c.args.sheet c.args.parsed in
+    let g = start c.args.sheet c.blank.result in
     ap (λ (d : Progress). d.parsed) (c.advance_by-whole.ensures ∙ ap (λ (r : Progress). advanced_by r r.parsed.rest) c.advance_by-first.ensures)
-    ∙ after_whole g refl c.requires
+    ∙ after_whole g refl c.blank.ensures

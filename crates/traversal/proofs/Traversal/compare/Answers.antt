@@ -4,4 +4,4 @@ use mathlib.Core.Path.{refl}
 use Rattle.traversal.proofs.Traversal.compare.Goals as goal
 
 pub returns : goal.returns
-returns c = record { state = refl; answer = c.compare-standing.ensures }
+returns c = record { state = refl; answer = c.standing-standing.ensures }

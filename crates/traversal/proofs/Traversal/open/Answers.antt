@@ -1,7 +1,7 @@
 -- `traversal::Traversal::open` meets its contract: refused it is the empty open walk, else the rows are copied.
 -- Assumes nothing.
 use Prim.Native.Nat.{ℕ}
-use mathlib.Core.Path.{◌≡◌, refl, sym, ap, ◌∙◌}
+use mathlib.Core.Path.{◌≡◌, refl, ap, ◌∙◌}
 use mathlib.Core.List.{List, ◌++◌}
 use mathlib.Core.Option.{none}
 use lib.ListN.{length, replicate}
@@ -13,17 +13,15 @@ use Rattle.traversal.proofs.Answered.{next_handed, kept_handed}
 use Rattle.traversal.proofs.Traversal.open.Goals as goal
 use Rattle.traversal.proofs.Traversal.open.Goals.{In_default}
 
-pub returns-in-Refused : goal.returns-in-Refused
+pub returns-in-Err : goal.returns-in-Err
 unfolding refusal_of open_barring opened nothing_open
-returns-in-Refused c =
-    let e = sym (ap refusal_of c.in-Refused.is) ∙ c.open_refusal-checked.ensures in
-    record { state = kept_handed _ nothing_open e; answer = e }
+returns-in-Err c = record { state = kept_handed _ nothing_open c.in-Err.ensures; answer = c.in-Err.ensures }
 
 accepted : (c : In_default)
     → let a = c.args in
     none ≡ first_refusal (open_tests_barring a.kind.0 a.mark a.rows.now a.barred)
 unfolding refusal_of
-accepted c = sym (ap refusal_of c.in_default.is) ∙ c.open_refusal-checked.ensures
+accepted c = c.in_default.ensures
 
 pub copy-requires : goal.copy-requires
 copy-requires c = (rows_fit _ _ _ _ (accepted (goal.at.copy-requires c).In_default), refl)

@@ -1,6 +1,7 @@
 -- `traversal::Traversal::place` meets its contract: refused it is kept, else the vertex is written behind the others.
 -- Assumes nothing.
-use mathlib.Core.Path.{◌≡◌, sym, ap, ◌∙◌}
+use mathlib.Core.Path.{◌≡◌}
+use Prim.Native.Nat.{◌<◌}
 use mathlib.Core.Option.{none}
 use native.Mathlib.Omega.{arith}
 use lib.ListN.{length}
@@ -15,31 +16,31 @@ use Rattle.traversal.proofs.Traversal.place.Goals.{In_default, Start}
 arrays : (s : Start) → (length s.args.self.rows ≡ 64) × (length s.args.self.ordering ≡ 64)
 arrays s = (search rules, search rules)
 
-pub returns-in-Refused : goal.returns-in-Refused
-unfolding refusal_of grown
-returns-in-Refused c =
-    let t = c.args.self in
-    let e = sym (ap refusal_of c.in-Refused.is) ∙ c.place_refusal-checked.ensures in
-    record { state = kept_handed _ t e; answer = e }
+pub returns-in-Err-clause-state : goal.returns-in-Err-clause-state
+unfolding grown refusal_of
+returns-in-Err-clause-state c = kept_handed _ c.args.self c.in-Err.ensures
 
 accepted : (c : In_default)
     → let a = c.args in
     none ≡ place_answer a.self a.vertex.0
 unfolding refusal_of
-accepted c = sym (ap refusal_of c.in_default.is) ∙ c.place_refusal-checked.ensures
+accepted c = c.in_default.ensures
 
-pub overflow_add-count : goal.overflow_add-count
-overflow_add-count c =
-    let a = c.args in
-    omega (arith, (place_room a.self (arrays (goal.at.overflow_add-count c).Start).0 (arrays (goal.at.overflow_add-count c).Start).1 a.vertex.0 (accepted c)).1)
+-- there is a position to write
+room : (c : In_default) → c.args.self.k < 64
+room c =
+    let full = arrays (goal.at.In_default c).Start in
+    (place_room c.args.self full.0 full.1 c.args.vertex.0 (accepted c)).1
 
-pub bounds-ordering-k : goal.bounds-ordering-k
-bounds-ordering-k c =
-    let a = c.args in
-    (place_room a.self (arrays (goal.at.bounds-ordering-k c).Start).0 (arrays (goal.at.bounds-ordering-k c).Start).1 a.vertex.0 (accepted c)).1
+pub bounds-grown-k : goal.bounds-grown-k
+bounds-grown-k c = room (goal.at.bounds-grown-k c).In_default
+
+pub overflow_add-grown : goal.overflow_add-grown
+overflow_add-grown c = omega (arith, room (goal.at.overflow_add-grown c).In_default)
 
 pub returns : goal.returns
 unfolding refusal_of grown
 returns c =
     let t = c.args.self in
-    record { state = next_handed _ t (accepted c); answer = accepted c }
+    let answer = accepted (goal.at.returns c).In_default in
+    record { state = next_handed _ t answer; answer = answer }

@@ -1,6 +1,6 @@
 -- `choice::choose` meets its contract. Where weights tell, the last of the heaviest is chosen. In MNS no entry of the tie-break from the place reached on is open.
 -- Assumes nothing.
-use Prim.Native.Nat.{ℕ, ◌+◌, ◌-◌, ◌<◌}
+use Prim.Native.Nat.{ℕ, ◌-◌, ◌<◌}
 use mathlib.Core.Path.{◌≡◌, sym, ap, ◌∙◌}
 use native.Mathlib.Omega.{arith}
 use lib.Dec.{T}
@@ -14,19 +14,14 @@ use Rattle.tables.specs.Rows.{in_set}
 use Rattle.wide.proofs.Downward.{closed_start, closed_next, last_found, last_unfound}
 use Rattle.wide.proofs.Choosing.{first_in_front, lead_chosen}
 use Rattle.wide.proofs.Heaviest.{last_heaviest}
+use Rattle.wide.proofs.Equal.{unequal_asked}
 use Rattle.wide.proofs.choice.choose.Goals as goal
 use Rattle.wide.proofs.choice.choose.Goals.{After-first_of-first, After-is_open, After-last_at-q}
-
-pub most_weight-most-requires : goal.most_weight-most-requires
-most_weight-most-requires c = c.requires.weighed.size
-
-pub last_at-q-requires : goal.last_at-q-requires
-last_at-q-requires c = (c.requires.weighed.size, c.requires.ranked.size)
 
 -- the place found is that of the chosen vertex
 heaviest : (c : After-last_at-q)
     → let a = c.args in
-    (c.last_at-q.result < length a.tie_break.now) × (at a.tie_break.now c.last_at-q.result ≡ chosen_in (search_of a.kind.0) a.labels.now a.free.now a.tie_break.now)
+    (c.last_at-q.result < length a.tie_break.now) × (at a.tie_break.now c.last_at-q.result ≡ chosen_in (search_of a.labels.now.kind.0) a.labels.now.words a.sets.now.free a.tie_break.now)
 heaviest c =
     last_heaviest _ (said_true _ c.by_weight.ensures c.if-by_weight.true) _ _ c.requires.weighed c.requires.bare c.most_weight-most.ensures c.if-most-gt0.true c.requires c.last_at-q.ensures
 
@@ -36,41 +31,37 @@ vertex_at-requires c = (heaviest c).0
 pub returns-then-most-gt0 : goal.returns-then-most-gt0
 returns-then-most-gt0 c = c.vertex_at.ensures ∙ (heaviest (goal.at.returns-then-most-gt0 c).After-last_at-q).1
 
-pub front_of-front-requires : goal.front_of-front-requires
-front_of-front-requires c = c.requires.sizes
-
 -- the smallest vertex of the front is one of it
 found : (c : After-first_of-first) → (c.first_of-first.result < 512) × T (in_set c.front_of-front.result c.first_of-first.result)
 found c =
-    first_in_front (search_of c.args.kind.0) c.requires c.front_of-front.ensures c.first_of-first.ensures
+    first_in_front (search_of c.args.labels.now.kind.0) c.requires c.front_of-front.ensures c.first_of-first.ensures
 
 pub overflow_cast-first : goal.overflow_cast-first
 overflow_cast-first c = omega (arith, (found c).0)
 
 pub lead_of-requires : goal.lead_of-requires
 lead_of-requires c =
-    (record { weighed = c.requires.weighed; other = search_of_mns _ c.if-kind.true; size = c.requires.ranked.size }, (found (goal.at.lead_of-requires c).After-first_of-first).0, (found (goal.at.lead_of-requires c).After-first_of-first).1)
+    (record { weighed = c.requires.weighed; other = search_of_mns _ (unequal_asked c.ne.ensures c.if-ne.true); size = c.requires.ranked.size }, (found (goal.at.lead_of-requires c).After-first_of-first).0, (found (goal.at.lead_of-requires c).After-first_of-first).1)
 
-pub returns-then-kind : goal.returns-then-kind
-returns-then-kind c =
-    lead_chosen (search_of c.args.kind.0) c.requires c.front_of-front.ensures c.lead_of.ensures
+pub returns-then-ne : goal.returns-then-ne
+returns-then-ne c =
+    lead_chosen (search_of c.args.labels.now.kind.0) c.requires c.front_of-front.ensures c.lead_of.ensures
 
-pub loop-passed-init : goal.loop-passed-init
-loop-passed-init c = (omega arith, closed_start _ _ (omega arith))
+pub loop-q-init : goal.loop-q-init
+loop-q-init c = closed_start _ _ (omega arith)
 
 pub is_open-requires : goal.is_open-requires
 is_open-requires c =
-    let q = length c.args.tie_break.now - (c.loop-passed.passed + 1) in
-    let inside : q < length c.args.tie_break.now = omega (arith, c.loop-passed-test.true) in
-    (c.requires.weighed, c.requires.covers, c.requires.bare, rw c.vertex_at-v.ensures (c.requires.ranked.entry q inside).0)
+    let inside : c.loop-q.q - 1 < length c.args.tie_break.now = omega (arith, c.loop-q-test.true) in
+    (c.requires.covers, c.requires.bare, rw c.vertex_at-v.ensures (c.requires.ranked.entry (c.loop-q.q - 1) inside).0)
 
 -- what was asked of the entry at the place reached
 answered : (c : After-is_open)
     → let a = c.args in
-    c.is_open.result ≡ open_in (search_of a.kind.0) a.labels.now a.free.now (at a.tie_break.now (length a.tie_break.now - (c.loop-passed.passed + 1)))
+    c.is_open.result ≡ open_in (search_of a.labels.now.kind.0) a.labels.now.words a.sets.now.free (at a.tie_break.now (c.loop-q.q - 1))
 answered c =
     let a = c.args in
-    c.is_open.ensures ∙ ap (λ (v : ℕ). open_in (search_of a.kind.0) a.labels.now a.free.now v) c.vertex_at-v.ensures
+    c.is_open.ensures ∙ ap (λ (v : ℕ). open_in (search_of a.labels.now.kind.0) a.labels.now.words a.sets.now.free v) c.vertex_at-v.ensures
 
 pub returns-then-is_open : goal.returns-then-is_open
 unfolding chosen_in
@@ -78,15 +69,12 @@ returns-then-is_open c =
     let t = c.args.tie_break.now in
     c.vertex_at-v.ensures
     ∙ ap (λ (x : ℕ). at t x)
-    (last_found _ _ (length t - (c.loop-passed.passed + 1)) (length t - c.loop-passed.passed) c.loop-passed.invariant.1 (omega (arith, c.loop-passed-test.true)) (omega (arith, c.loop-passed-test.true)) (sym (answered (goal.at.returns-then-is_open c).After-is_open) ∙ c.if-is_open.true))
+    (last_found _ _ (c.loop-q.q - 1) c.loop-q.q c.loop-q.invariant (omega (arith, c.loop-q-test.true)) (omega (arith, c.loop-q-test.true))
+    (sym (answered (goal.at.returns-then-is_open c).After-is_open) ∙ c.if-is_open.true))
 
-pub loop-passed-preserved : goal.loop-passed-preserved
-loop-passed-preserved c =
-    let t = c.args.tie_break.now in (
-      omega (arith, c.loop-passed-test.true),
-      closed_next _ _ (length t - (c.loop-passed.passed + 1)) (length t - c.loop-passed.passed) c.loop-passed.invariant.1 (omega (arith, c.loop-passed-test.true))
-          (sym (answered (goal.at.loop-passed-preserved c).After-is_open) ∙ c.if-is_open.false),
-    )
+pub loop-q-preserved : goal.loop-q-preserved
+loop-q-preserved c =
+    closed_next _ _ (c.loop-q.q - 1) c.loop-q.q c.loop-q.invariant (omega (arith, c.loop-q-test.true)) (sym (answered (goal.at.loop-q-preserved c).After-is_open) ∙ c.if-is_open.false)
 
 pub vertex_at-requires-2 : goal.vertex_at-requires-2
 vertex_at-requires-2 c =
@@ -97,4 +85,4 @@ pub returns : goal.returns
 unfolding chosen_in
 returns c =
     let t = c.args.tie_break.now in
-    c.vertex_at-2.ensures ∙ ap (λ (x : ℕ). at t x) (last_unfound _ _ c.loop-passed.invariant.1 (omega (arith, c.loop-passed-test.false)))
+    c.vertex_at-2.ensures ∙ ap (λ (x : ℕ). at t x) (last_unfound _ _ c.loop-q.invariant (omega (arith, c.loop-q-test.false)))

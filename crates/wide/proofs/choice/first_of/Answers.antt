@@ -1,6 +1,5 @@
 -- `wide::choice::first_of` meets its contract: the first word of the set that is not empty has it.
 -- Assumes nothing.
-use Prim.Native.Nat.{◌-◌}
 use native.Mathlib.Omega.{arith}
 use Rattle.bitset.proofs.Passed.{passed_start, first_unfound}
 use Rattle.tables.specs.Rows.{in_set}

@@ -1,6 +1,5 @@
 -- `choice::front_of` meets its contract: the words passed are written, and a vertex was found in them where `some` says so.
 -- Assumes nothing.
-use Prim.Native.Nat.{◌-◌}
 use mathlib.Core.Path.{refl, sym, subst}
 use mathlib.Core.Bool.{Bool}
 use lib.Dec.{T}

@@ -4,7 +4,7 @@ use Rattle.wide.proofs.Leading.{Joined}
 use Rattle.wide.proofs.choice.lead_in.Given as goal
 
 abbrev pub invariant-loop-rest : goal.invariant-loop-rest
-invariant-loop-rest l = Joined (search_of l.kind.0) l.labels l.ranks l.initial.lead.0 l.word l.i l.lead.0 l.rest
+invariant-loop-rest l = Joined (search_of l.labels.kind.0) l.labels.words l.ranks l.initial.lead.0 l.word l.i l.lead.0 l.rest
 
 abbrev pub decreases-loop-rest : goal.decreases-loop-rest
 decreases-loop-rest l = l.rest

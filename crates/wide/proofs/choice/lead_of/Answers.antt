@@ -1,6 +1,5 @@
 -- `choice::lead_of` meets its contract: the lead leads the first vertex and those of the words passed.
 -- Assumes nothing.
-use Prim.Native.Nat.{◌-◌}
 use native.Mathlib.Omega.{arith}
 use Rattle.wide.proofs.Leading.{seen_start, seen_next, seen_all}
 use Rattle.wide.proofs.choice.lead_of.Goals as goal

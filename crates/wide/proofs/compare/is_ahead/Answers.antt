@@ -14,27 +14,28 @@ use Rattle.searches.proofs.ByNumbers.{upto_ahead}
 use Rattle.labels.proofs.Comparison.{of_kind}
 use Rattle.tables.specs.Rows.{row_of}
 use Rattle.wide.specs.Store.{weight_in}
+use Rattle.wide.proofs.Equal.{equal_told, same_ahead}
 use Rattle.wide.proofs.compare.is_ahead.Goals as goal
 use Rattle.wide.proofs.compare.is_ahead.Goals.{Start}
 
 -- a label
 abbrev row : Start → ℕ → ℕ → Bool
-row s = row_of s.args.labels.now
+row s = row_of s.args.labels.now.words
 
 -- in MNS the weights are the counts
-counts : (s : Start) → s.args.kind.0 ≡ 5 → (v : ℕ) → v < 512 → get_or s.args.weights.now v 0 ≡ count_below 512 (row s v)
+counts : (s : Start) → s.args.labels.now.kind.0 ≡ 5 → (v : ℕ) → v < 512 → get_or s.args.labels.now.weights v 0 ≡ count_below 512 (row s v)
 unfolding weight_in search_of
-counts s e v l = s.requires.0.is v l ∙ ap (λ (k : ℕ). weight_in (search_of k) 512 (row s v)) e
+counts s e v l = s.args.labels.now.stored.weighed.is v l ∙ ap (λ (k : ℕ). weight_in (search_of k) 512 (row s v)) e
 
-pub returns-then-weights-first : goal.returns-then-weights-first
+pub returns-then-labels-first : goal.returns-then-labels-first
 unfolding search_of
-returns-then-weights-first c =
-    let e = c.if-kind.true in
-    of_kind (λ k. outranks k 512 (row (goal.at.returns-then-weights-first c).Start c.args.c.0) (row (goal.at.returns-then-weights-first c).Start c.args.b.0)) e
-    (sym (upto_ahead 512 (row (goal.at.returns-then-weights-first c).Start c.args.c.0) (row (goal.at.returns-then-weights-first c).Start c.args.b.0)
-    (omega (arith, c.if-weights-first.true, counts (goal.at.returns-then-weights-first c).Start e c.args.c.0 c.requires.1, counts (goal.at.returns-then-weights-first c).Start e c.args.b.0 c.requires.2))))
+returns-then-labels-first c =
+    let e : c.args.labels.now.kind.0 ≡ 5 = equal_told c.eq.ensures c.if-eq.true in
+    of_kind (λ k. outranks k 512 (row (goal.at.returns-then-labels-first c).Start c.args.c.0) (row (goal.at.returns-then-labels-first c).Start c.args.b.0)) e
+    (sym (upto_ahead 512 (row (goal.at.returns-then-labels-first c).Start c.args.c.0) (row (goal.at.returns-then-labels-first c).Start c.args.b.0)
+    (omega (arith, c.if-labels-first.true, counts (goal.at.returns-then-labels-first c).Start e c.args.c.0 c.requires.0, counts (goal.at.returns-then-labels-first c).Start e c.args.b.0 c.requires.1))))
 
 pub returns : goal.returns
 returns c =
-    c.tells_ahead.ensures ∙ ap is_ahead c.compare.ensures
-    ∙ ahead_told (search_of c.args.kind.0) 512 (row (goal.at.returns c).Start c.args.c.0) (row (goal.at.returns c).Start c.args.b.0)
+    c.eq-2.ensures ∙ same_ahead c.compare.result ∙ ap is_ahead c.compare.ensures
+    ∙ ahead_told (search_of c.args.labels.now.kind.0) 512 (row (goal.at.returns c).Start c.args.c.0) (row (goal.at.returns c).Start c.args.b.0)

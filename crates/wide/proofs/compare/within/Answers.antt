@@ -7,6 +7,7 @@ use native.Mathlib.Omega.{arith}
 use lib.Dec.{eqb}
 use lib.ListN.{get_or}
 use Rattle.bitset.specs.Below.{count_below}
+use Rattle.searches.specs.Kind.{Search}
 use Rattle.searches.proofs.ByNumbers.{within_first, fewer_within}
 use Rattle.tables.specs.Rows.{row_of}
 use Rattle.wide.specs.Store.{weight_in}
@@ -15,17 +16,17 @@ use Rattle.wide.proofs.compare.within.Goals.{Start}
 
 -- a label
 abbrev row : Start → ℕ → ℕ → Bool
-row s = row_of s.args.labels.now
+row s = row_of s.args.labels.now.words
 
 -- the weights are the counts
-counts : (s : Start) (v : ℕ) → v < 512 → get_or s.args.weights.now v 0 ≡ count_below 512 (row s v)
+counts : (s : Start) (v : ℕ) → v < 512 → get_or s.args.labels.now.weights v 0 ≡ count_below 512 (row s v)
 unfolding weight_in
-counts s v l = s.requires.0.is v l
+counts s v l = s.args.labels.now.stored.weighed.is v l ∙ ap (λ (x : Search). weight_in x 512 (row s v)) s.requires.0
 
-pub returns-then-weights-b : goal.returns-then-weights-b
-returns-then-weights-b c =
-    sym (fewer_within 512 (row (goal.at.returns-then-weights-b c).Start c.args.b) (row (goal.at.returns-then-weights-b c).Start c.args.c)
-    (omega (arith, c.if-weights-b.true, counts (goal.at.returns-then-weights-b c).Start c.args.c c.requires.1, counts (goal.at.returns-then-weights-b c).Start c.args.b c.requires.2)))
+pub returns-then-labels-b : goal.returns-then-labels-b
+returns-then-labels-b c =
+    sym (fewer_within 512 (row (goal.at.returns-then-labels-b c).Start c.args.b) (row (goal.at.returns-then-labels-b c).Start c.args.c)
+    (omega (arith, c.if-labels-b.true, counts (goal.at.returns-then-labels-b c).Start c.args.c c.requires.1, counts (goal.at.returns-then-labels-b c).Start c.args.b c.requires.2)))
 
 pub returns : goal.returns
 unfolding row_of

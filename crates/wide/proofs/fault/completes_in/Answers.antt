@@ -7,8 +7,9 @@ use lib.Dec.{T}
 use Rattle.bitset.specs.Word.{member}
 use Rattle.bitset.proofs.Scan.{scan_start, scan_next, scan_found, scan_end, first_member, removed_less, taken_out}
 use Rattle.wide.proofs.Starting.{completes_yes, completes_itself, completes_excused}
+use Rattle.wide.proofs.Equal.{equal_asked, unequal_asked}
 use Rattle.wide.proofs.fault.completes_in.Goals as goal
-use Rattle.wide.proofs.fault.completes_in.Goals.{After-smallest, then-c-b+else-is_unexcused, else-c-b}
+use Rattle.wide.proofs.fault.completes_in.Goals.{After-smallest, then-ne+else-is_unexcused, else-ne}
 
 -- the smallest number of what is left is in it
 found : (c : After-smallest) → (c.smallest.result < 64) × T (member c.loop-rest.rest c.smallest.result)
@@ -19,20 +20,20 @@ found c =
 pub loop-rest-init : goal.loop-rest-init
 loop-rest-init c = scan_start _ _ c.ranges.word.fits
 
-pub overflow_add-c : goal.overflow_add-c
-overflow_add-c c = omega (arith, (found c).0, c.requires.1)
+pub overflow_add-number : goal.overflow_add-number
+overflow_add-number c = omega (arith, (found c).0, c.requires.0)
 
-pub overflow_cast-c : goal.overflow_cast-c
-overflow_cast-c c = omega (arith, (found c).0, c.requires.1)
+pub overflow_cast-number : goal.overflow_cast-number
+overflow_cast-number c = omega (arith, (found c).0, c.requires.0)
 
 pub is_unexcused-requires : goal.is_unexcused-requires
 is_unexcused-requires c =
-    (c.requires.0, c.requires.2, omega (arith, (found (goal.at.is_unexcused-requires c).After-smallest).0, c.requires.1), c.requires.3)
+    (c.requires.1, omega (arith, (found (goal.at.is_unexcused-requires c).After-smallest).0, c.requires.0), c.requires.2)
 
 pub returns-then-is_unexcused : goal.returns-then-is_unexcused
 returns-then-is_unexcused c =
     scan_found c.loop-rest.invariant c.smallest.result (found (goal.at.returns-then-is_unexcused c).After-smallest).0 (found (goal.at.returns-then-is_unexcused c).After-smallest).1
-    (completes_yes _ _ _ _ _ c.if-c-b.true c.is_unexcused.ensures c.if-is_unexcused.true)
+    (completes_yes _ _ _ _ _ (unequal_asked c.ne.ensures c.if-ne.true) c.is_unexcused.ensures c.if-is_unexcused.true)
 
 pub loop-rest-smaller : goal.loop-rest-smaller
 loop-rest-smaller c =
@@ -42,7 +43,7 @@ pub loop-rest-preserved : goal.loop-rest-preserved
 loop-rest-preserved c =
     rw (taken_out c.loop-rest.rest c.without_smallest-rest.ensures c.smallest.ensures)
     (scan_next c.loop-rest.invariant c.smallest.result
-    (λ _. elim c.if-c-b.branch [ then-c-b+else-is_unexcused w ↦ completes_excused _ _ _ _ _ w.is_unexcused.ensures w.if-is_unexcused.false | else-c-b w ↦ completes_itself _ _ _ _ _ w.if-c-b.false ]))
+    (λ _. elim c.if-ne.branch [ then-ne+else-is_unexcused w ↦ completes_excused _ _ _ _ _ w.is_unexcused.ensures w.if-is_unexcused.false | else-ne w ↦ completes_itself _ _ _ _ _ (equal_asked c.ne.ensures w.if-ne.false) ]))
 
 pub returns : goal.returns
 returns c = scan_end c.loop-rest.invariant c.loop-rest-test.false

@@ -1,16 +1,11 @@
 -- `wide::fault::first_by_number` meets its contract.
 -- Assumes nothing.
-use Prim.Native.Nat.{◌-◌}
 use mathlib.Core.Path.{sym, ◌∙◌}
-use native.Mathlib.Omega.{arith}
 use Rattle.bitset.proofs.Passed.{passed_start, passed_more, first_found, first_unfound}
 use Rattle.wide.proofs.fault.first_by_number.Goals as goal
 
 pub loop-v-init : goal.loop-v-init
 loop-v-init c = passed_start _ _
-
-pub overflow_cast-number : goal.overflow_cast-number
-overflow_cast-number c = omega (arith, c.requires.0.small, c.loop-v-test.true)
 
 pub is_violation-requires : goal.is_violation-requires
 is_violation-requires c = (c.requires.0, c.requires.1, c.loop-v-test.true)
@@ -21,9 +16,6 @@ returns-then-is_violation c = first_found c.loop-v.invariant (sym c.is_violation
 pub loop-v-preserved : goal.loop-v-preserved
 loop-v-preserved c =
     passed_more c.loop-v.invariant c.loop-v-test.true (sym c.is_violation.ensures ∙ c.if-is_violation.false)
-
-pub overflow_cast-none : goal.overflow_cast-none
-overflow_cast-none c = omega (arith, c.requires.0.small)
 
 pub returns : goal.returns
 returns c = first_unfound c.loop-v.invariant c.loop-v-test.false

@@ -1,5 +1,4 @@
 -- `wide::fault::first_by_position` meets its contract.
-use Prim.Native.Nat.{◌-◌}
 use Rattle.bitset.proofs.Passed.{Passed}
 use Rattle.searches.specs.Kind.{search_of}
 use Rattle.searches.specs.Ordering.{at}
@@ -8,7 +7,4 @@ use Rattle.searches.specs.Violation.{violates}
 use Rattle.wide.proofs.fault.first_by_position.Given as goal
 
 abbrev pub invariant-loop-p : goal.invariant-loop-p
-invariant-loop-p l = Passed l.k (λ q. violates (search_of l.kind.0) (arcs_wide 8 l.table) l.ordering l.i.0 l.j.0 (at l.ordering q)) l.p
-
-abbrev pub decreases-loop-p : goal.decreases-loop-p
-decreases-loop-p l = l.k - l.p
+invariant-loop-p l = Passed l.k (λ q. violates (search_of l.labels.kind.0) (arcs_wide 8 l.graph.table.now) l.ordering l.i.0 l.j.0 (at l.ordering q)) l.p

@@ -1,6 +1,5 @@
 -- `wide::fault::first_first` meets its contract.
 -- Assumes nothing.
-use Prim.Native.Nat.{◌-◌}
 use mathlib.Core.Path.{sym, ◌∙◌}
 use Rattle.bitset.proofs.Passed.{passed_start, passed_more, first_found, first_unfound}
 use Rattle.wide.proofs.fault.first_first.Goals as goal

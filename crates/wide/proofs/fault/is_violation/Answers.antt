@@ -2,6 +2,7 @@
 -- Assumes nothing.
 use native.Mathlib.Omega.{arith}
 use Rattle.wide.proofs.Violating.{row_there, vertex_fits, turn_fits, unlinked, linked_both, placed_before, middle_itself, unexcused_violates}
+use Rattle.wide.proofs.Equal.{equal_told, unequal_told}
 use Rattle.wide.proofs.fault.is_violation.Goals as goal
 
 pub contains-requires : goal.contains-requires
@@ -24,16 +25,16 @@ pub returns-then-not-in_set : goal.returns-then-not-in_set
 returns-then-not-in_set c =
     placed_before c.requires.0 c.args.i.0 c.args.c.0 c.requires.1 c.requires.2 c.in_set.ensures c.if-not-in_set.true
 
-pub returns-then-c-b : goal.returns-then-c-b
-returns-then-c-b c =
-    middle_itself c.requires.0 c.args.i.0 c.args.c.0 c.requires.1 c.requires.2 c.vertex_at-b.ensures c.if-c-b.true
+pub returns-then-eq : goal.returns-then-eq
+returns-then-eq c =
+    middle_itself c.requires.0 c.args.i.0 c.args.c.0 c.requires.1 c.requires.2 c.vertex_at-b.ensures (equal_told c.eq.ensures c.if-eq.true)
 
 pub is_unexcused-requires : goal.is_unexcused-requires
 is_unexcused-requires c =
-    (c.requires.0.weighed, omega (arith, turn_fits c.requires.0, c.requires.1), omega (arith, c.requires.0.small, c.requires.2), vertex_fits c.requires.0 c.args.j.0 c.requires.0.turn c.vertex_at-b.ensures)
+    (omega (arith, turn_fits c.requires.0, c.requires.1), omega (arith, c.requires.0.small, c.requires.2), vertex_fits c.requires.0 c.args.j.0 c.requires.0.turn c.vertex_at-b.ensures)
 
 pub returns : goal.returns
 returns c =
     unexcused_violates c.requires.0 c.args.i.0 c.args.c.0 c.requires.1 c.requires.2 c.vertex_at-a.ensures c.vertex_at-b.ensures
     c.contains.ensures c.if-not-contains.false c.contains-2.ensures c.if-contains.false
-    c.in_set.ensures c.if-not-in_set.false c.if-c-b.false c.is_unexcused.ensures
+    c.in_set.ensures c.if-not-in_set.false (unequal_told c.eq.ensures c.if-eq.false) c.is_unexcused.ensures

@@ -1,6 +1,6 @@
 -- `fault::starts` meets its contract, word by word: no vertex of the words passed completes a violation.
 -- Assumes nothing.
-use Prim.Native.Nat.{◌-◌, ◌<◌}
+use Prim.Native.Nat.{◌<◌}
 use mathlib.Core.Path.{◌≡◌, sym, ◌∙◌}
 use native.Mathlib.Omega.{arith}
 use Rattle.bitset.proofs.Passed.{passed_start, passed_more}
@@ -26,31 +26,18 @@ small : (c : In-loop-word) → c.vertex_at-a.result.0 < 512
 small c =
     vertex_fits c.requires.0 c.args.i.0 (omega (arith, c.requires.0.turn, c.requires.1)) c.vertex_at-a.ensures
 
-pub overflow_mul-a : goal.overflow_mul-a
-overflow_mul-a c = omega (arith, small c)
-
-pub overflow_add-a : goal.overflow_add-a
-overflow_add-a c = omega (arith, small c, c.loop-word-test.true)
-
-pub offset_bounds-table-a : goal.offset_bounds-table-a
-offset_bounds-table-a c = omega (arith, small c, c.loop-word-test.true)
-
-pub bounds-table-a : goal.bounds-table-a
-bounds-table-a c =
-    omega (arith, c.loop-word-test.true, row_there c.requires.0 c.args.i.0 (omega (arith, c.requires.0.turn, c.requires.1)) c.vertex_at-a.ensures)
-
 pub completes_in-requires : goal.completes_in-requires
 completes_in-requires c =
-    (c.requires.0.weighed, c.loop-word-test.true, omega (arith, turn_fits c.requires.0, c.requires.1), vertex_fits c.requires.0 c.args.j.0 c.requires.0.turn c.vertex_at-b.ensures)
+    (c.loop-word-test.true, omega (arith, turn_fits c.requires.0, c.requires.1), vertex_fits c.requires.0 c.args.j.0 c.requires.0.turn c.vertex_at-b.ensures)
 
 -- whether a vertex of the word completes a violation
 answered : (c : After-completes_in)
     → let a = c.args in
-    c.completes_in.result ≡ starts_word (search_of a.kind.0) a.table.now a.labels.now a.free.now a.i.0 c.vertex_at-a.result.0 c.vertex_at-b.result.0 c.loop-word.word
+    c.completes_in.result ≡ starts_word (search_of a.labels.now.kind.0) a.graph.now.table.now a.labels.now.words a.free.now a.i.0 c.vertex_at-a.result.0 c.vertex_at-b.result.0 c.loop-word.word
 answered c =
     let a = c.args in
     c.completes_in.ensures
-    ∙ started_word (search_of a.kind.0) a.table.now a.labels.now a.free.now a.i.0 c.vertex_at-a.result.0 c.vertex_at-b.result.0 c.loop-word.word
+    ∙ started_word (search_of a.labels.now.kind.0) a.graph.now.table.now a.labels.now.words a.free.now a.i.0 c.vertex_at-a.result.0 c.vertex_at-b.result.0 c.loop-word.word
     c.loop-word-test.true c.common-front.ensures
 
 pub returns-then-completes_in : goal.returns-then-completes_in

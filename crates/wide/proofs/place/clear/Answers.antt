@@ -1,12 +1,13 @@
 -- `wide::place::clear` meets its contract: what is kept of an empty label is written for the vertex.
 -- Assumes nothing.
+use mathlib.Core.Path.{refl}
 use Rattle.wide.proofs.Clearing.{row_cleared, stored_cleared}
 use Rattle.wide.proofs.place.clear.Goals as goal
 
-pub returns : goal.returns
-returns c =
+pub invariant_of-labels : goal.invariant_of-labels
+invariant_of-labels c =
     let e = c.empty_row.ensures in
-    record {
-      label = row_cleared e;
-      stored = λ s kept. stored_cleared c.requires.0 (row_cleared e) e.same_length s kept;
-    }
+    record { stored = stored_cleared c.requires (row_cleared e) e.same_length _ c.args.labels.now.stored }
+
+pub returns : goal.returns
+returns c = record { label = row_cleared c.empty_row.ensures; kind = refl }

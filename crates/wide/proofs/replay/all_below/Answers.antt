@@ -1,19 +1,16 @@
 -- `wide::replay::all_below` meets its contract: word by word, the numbers of the word that are below n.
 -- Assumes nothing.
-use mathlib.Core.Path.{◌≡◌, refl}
-use Prim.Native.Nat.{◌*◌, ◌-◌}
+use mathlib.Core.Path.{refl}
 use native.Mathlib.Omega.{arith}
 use Rattle.wide.proofs.Upto.{upto_start, upto_next}
 use Rattle.wide.proofs.replay.all_below.Goals as goal
-use Rattle.wide.proofs.replay.all_below.Goals.{then-below-n, else-below-n}
 
 pub loop-i-init : goal.loop-i-init
 loop-i-init c = upto_start _ refl
 
 pub loop-i-preserved : goal.loop-i-preserved
 loop-i-preserved c =
-    let left : c.if-below-n.count ≡ c.args.n - 64 * c.loop-i.i = elim c.if-below-n.branch [ then-below-n w ↦ w.count-is | else-below-n w ↦ omega arith ] in
-    upto_next c.loop-i.i c.loop-i.invariant c.loop-i-test.true left c.full_below.ensures
+    upto_next c.loop-i.i c.loop-i.invariant c.loop-i-test.true c.saturating_sub.ensures c.full_below.ensures
 
 pub returns : goal.returns
 returns c =

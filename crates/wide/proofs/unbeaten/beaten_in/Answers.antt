@@ -20,13 +20,13 @@ pub loop-rest-init : goal.loop-rest-init
 loop-rest-init c = scan_start _ _ c.ranges.word.fits
 
 pub overflow_add-u : goal.overflow_add-u
-overflow_add-u c = omega (arith, (found c).0, c.requires.1)
+overflow_add-u c = omega (arith, (found c).0, c.requires.0)
 
 pub overflow_cast-u : goal.overflow_cast-u
-overflow_cast-u c = omega (arith, (found c).0, c.requires.1)
+overflow_cast-u c = omega (arith, (found c).0, c.requires.0)
 
 pub is_ahead-requires : goal.is_ahead-requires
-is_ahead-requires c = (c.requires.0, omega (arith, (found c).0, c.requires.1), c.requires.2)
+is_ahead-requires c = (omega (arith, (found c).0, c.requires.0), c.requires.1)
 
 pub returns-then-is_ahead : goal.returns-then-is_ahead
 returns-then-is_ahead c =

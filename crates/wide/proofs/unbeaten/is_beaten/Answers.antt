@@ -1,6 +1,5 @@
 -- `unbeaten::is_beaten` meets its contract: by the greatest weight, or word by word: no vertex of the words passed is ahead.
 -- Assumes nothing.
-use Prim.Native.Nat.{◌-◌}
 use mathlib.Core.Path.{◌≡◌, sym, ◌∙◌}
 use Rattle.bitset.proofs.Tests.{said_true}
 use Rattle.bitset.proofs.Passed.{passed_start, passed_more}
@@ -10,31 +9,25 @@ use Rattle.wide.proofs.Heaviest.{beaten_lighter}
 use Rattle.wide.proofs.unbeaten.is_beaten.Goals as goal
 use Rattle.wide.proofs.unbeaten.is_beaten.Goals.{After-beaten_in}
 
-pub bounds-weights-b : goal.bounds-weights-b
-bounds-weights-b c = c.requires.3
-
-pub most_weight-requires : goal.most_weight-requires
-most_weight-requires c = c.requires.0.size
-
 pub returns-then-by_weight : goal.returns-then-by_weight
 returns-then-by_weight c =
-    beaten_lighter _ (said_true _ c.by_weight.ensures c.if-by_weight.true) _ _ c.requires.0 c.requires.2 c.most_weight.ensures _ c.requires.3
+    beaten_lighter _ (said_true _ c.by_weight.ensures c.if-by_weight.true) _ _ c.args.labels.now.stored.weighed c.requires.1 c.most_weight.ensures _ c.requires.2
 
 pub loop-i-init : goal.loop-i-init
 loop-i-init c = passed_start _ _
 
 pub beaten_in-requires : goal.beaten_in-requires
 beaten_in-requires c =
-    (c.requires.0, c.loop-i-test.true, c.requires.3)
+    (c.loop-i-test.true, c.requires.2)
 
 -- whether a free vertex of word i is ahead
 answered : (c : After-beaten_in)
     → let a = c.args in
-    c.beaten_in.result ≡ beats_word (search_of a.kind.0) a.labels.now a.free.now a.b.0 c.loop-i.i
+    c.beaten_in.result ≡ beats_word (search_of a.labels.now.kind.0) a.labels.now.words a.sets.now.free a.b.0 c.loop-i.i
 answered c =
     let a = c.args in
     c.beaten_in.ensures
-    ∙ beaten_word (search_of a.kind.0) a.labels.now a.free.now a.reached.now c.requires.1 a.b.0 c.loop-i.i c.loop-i-test.true c.common-front.ensures
+    ∙ beaten_word (search_of a.labels.now.kind.0) a.labels.now.words a.sets.now.free a.sets.now.reached c.requires.0 a.b.0 c.loop-i.i c.loop-i-test.true c.common-front.ensures
 
 pub returns-then-beaten_in : goal.returns-then-beaten_in
 returns-then-beaten_in c =

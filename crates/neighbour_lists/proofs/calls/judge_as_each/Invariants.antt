@@ -1,9 +1,0 @@
--- `neighbour_lists::calls::judge_as_each` ends.
-use Prim.Native.Nat.{◌≤◌, ◌-◌}
-use Rattle.neighbour_lists.proofs.calls.judge_as_each.Given as goal
-
-abbrev pub invariant-loop-kind : goal.invariant-loop-kind
-invariant-loop-kind l = l.kind ≤ 8
-
-abbrev pub decreases-loop-kind : goal.decreases-loop-kind
-decreases-loop-kind l = 8 - l.kind

@@ -1,9 +1,0 @@
--- `neighbour_lists::judge_each_kind` ends.
-use Prim.Native.Nat.{◌≤◌, ◌-◌}
-use Rattle.neighbour_lists.proofs.judge_each_kind.Given as goal
-
-abbrev pub invariant-loop-kind : goal.invariant-loop-kind
-invariant-loop-kind l = l.kind ≤ 7
-
-abbrev pub decreases-loop-kind : goal.decreases-loop-kind
-decreases-loop-kind l = 7 - l.kind

@@ -1,9 +1,0 @@
--- `notation::show_rows` reads rows that are there.
-use Prim.Native.Nat.{◌≤◌, ◌-◌}
-use Rattle.notation.proofs.show_rows.Given as goal
-
-abbrev pub invariant-loop-p : goal.invariant-loop-p
-invariant-loop-p l = l.p ≤ 64
-
-abbrev pub decreases-loop-p : goal.decreases-loop-p
-decreases-loop-p l = 64 - l.p

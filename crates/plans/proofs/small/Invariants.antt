@@ -1,9 +1,0 @@
--- `plans::small` writes to rows that are there.
-use Prim.Native.Nat.{◌≤◌, ◌-◌}
-use Rattle.plans.proofs.small.Given as goal
-
-abbrev pub invariant-loop-u : goal.invariant-loop-u
-invariant-loop-u l = l.u ≤ l.n
-
-abbrev pub decreases-loop-u : goal.decreases-loop-u
-decreases-loop-u l = l.n - l.u
