@@ -1,4 +1,5 @@
-// Tests on the first entries of a list of vertices.
+// Tests on the first entries of a list of vertices. How many these are stands beside the list, as in the definitions that the tests answer (`vertex_outside`,
+// `repeated`).
 ghost use Rattle.std.specs.Prelude.{◌≡◌, ℕ, ◌≤◌, ◌<◌, length};
 ghost use Rattle.searches.specs.Ordering.{at};
 ghost use Rattle.searches.specs.Answer.{vertex_outside};
@@ -9,12 +10,7 @@ pub fn vertex_outside(list: &[u16], k: usize, n: usize) -> bool
     requires { k ≤ length list.now }
     ensures { result ≡ vertex_outside n list.now k }
 {
-    for entry in &list[..k] {
-        if n <= *entry as usize {
-            return true;
-        }
-    }
-    false
+    list[..k].iter().any(|entry| n <= *entry as usize)
 }
 
 // Whether one of the first `k` entries, all below 512, stands there twice.

@@ -9,6 +9,7 @@ ghost use Rattle.std.specs.Prelude.{◌≡◌};
 ghost use Rattle.searches.specs.Answer.{first_refusal, refusal_of};
 ghost use Rattle.searches.specs.Wide.{open_tests_wide, judge_tests_wide, list_tests_wide};
 
+use crate::rows::Table;
 use searches::{Kind, Mark, Refusal};
 
 // The first of refusals 1 to 5 that applies to `kind` and `table`, else `Ok`; 5 for two-way graphs only. It alters neither.
@@ -23,16 +24,17 @@ fn graph_refusal(kind: Kind, mark: Mark, table: &[u64]) -> Result<(), Refusal>
     if length % 8 != 0 || 512 < n {
         return Err(Refusal::TooManyVertices);
     }
-    if rows::bit_outside(table, n) {
+    let table = Table { n, words: table };
+    if table.bit_outside() {
         return Err(Refusal::ArcOutOfRange);
     }
-    if rows::self_loop(table, n) {
+    if table.self_loop() {
         return Err(Refusal::SelfLoop);
     }
     if let Mark::OneWay = mark {
         return Ok(());
     }
-    if rows::one_way(table, n) {
+    if table.one_way() {
         return Err(Refusal::OneWayArc);
     }
     Ok(())
@@ -58,7 +60,7 @@ pub fn judge_refusal(kind: Kind, mark: Mark, table: &[u64], ordering: &[u16]) ->
 }
 
 // The first of refusals 1 to 6, 10, 7, 8 and 9, in this order, that applies to carrying on the first `k` entries of `output`, else `Ok`. It alters no
-// list, and any `k` may be given.
+// list, and any `k` may be given: what is behind the first `k` entries is no part of the start.
 pub fn list_refusal(
     kind: Kind,
     mark: Mark,

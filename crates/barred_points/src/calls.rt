@@ -12,23 +12,19 @@ fn compare(traversal: Traversal, first: u8, second: u8) -> Traversal {
     compared.traversal
 }
 
-// A number compared with each of the first `count` numbers of the list.
-fn against_each(traversal: Traversal, first: u8, points: [u8; 10], count: usize) -> Traversal
-    requires { count ≤ 10 }
-{
+// A number compared with each number of the list.
+fn against_each(traversal: Traversal, first: u8, points: &[u8]) -> Traversal {
     let mut t = traversal;
-    for p in 0..count {
-        t = compare(t, first, points[p]);
+    for point in points {
+        t = compare(t, first, *point);
     }
     t
 }
 
 // The line of a number.
-fn try_one(traversal: Traversal, point: u8, points: [u8; 10], count: usize) -> Traversal
-    requires { count ≤ 10 }
-{
-    lines::show_first(point);
-    let t = against_each(traversal, point, points, count);
+fn try_one(traversal: Traversal, point: u8, points: &[u8]) -> Traversal {
+    notation::show_first(point);
+    let t = against_each(traversal, point, points);
     lines::show_stepped(t.place(Vertex(point)));
     t
 }
@@ -42,14 +38,12 @@ fn offer_and_take_back(traversal: Traversal) -> Traversal {
     t
 }
 
-// All calls, with each of the first `count` numbers of the list.
-pub fn try_each(traversal: Traversal, points: [u8; 10], count: usize) -> Traversal
-    requires { count ≤ 10 }
-{
+// All calls, with each number of the list.
+pub fn try_each(traversal: Traversal, points: &[u8]) -> Traversal {
     lines::show_walk(traversal);
     let mut t = offer_and_take_back(traversal);
-    for p in 0..count {
-        t = try_one(t, points[p], points, count);
+    for point in points {
+        t = try_one(t, *point, points);
     }
     t
 }
@@ -69,7 +63,7 @@ pub fn open(kind: u8, mark: Mark, rows: [u64; 64], n: usize, barred: u64) -> Tra
     open_on(kind, mark, &rows[..n], barred)
 }
 
-// With an offered point placed; where all unbarred ones are placed, as it was.
+// With an offered point placed; where all unbarred ones are placed, as it was. `plans` and `notation` know no open walk, so `compared_points` has its own.
 pub fn grown(traversal: Traversal, random: u64) -> Traversal {
     let seen = traversal.offered();
     let set = seen.set.unwrap_or(0);

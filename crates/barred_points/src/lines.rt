@@ -1,5 +1,5 @@
 // The lines that are printed.
-use notation::{number, put, show, show_bar, show_entries, show_plan};
+use notation::{put, show, show_bar, show_plan};
 use searches::{Mark, Refusal};
 use traversal::{Stepped, Traversal};
 
@@ -14,12 +14,7 @@ pub fn show_walk(traversal: Traversal) {
     let mark = traversal.mark;
     let rows = traversal.rows;
     let places = traversal.ordering;
-    io::print_decimal(1, u64::from(kind.0));
-    show(number(mark));
-    show(traversal.n as u64);
-    show(traversal.k as u64);
-    show_entries(&rows, traversal.n);
-    show_entries(&places, traversal.k);
+    notation::show_walk(kind, mark, &rows, traversal.n, &places, traversal.k);
     show_barred(traversal.barred);
     put(b'\n');
 }
@@ -27,16 +22,10 @@ pub fn show_walk(traversal: Traversal) {
 // How the line of an open begins.
 pub fn show_asked(kind: u8, mark: Mark, rows: &[u64], barred: u64) {
     io::print_decimal(1, u64::from(kind));
-    show(number(mark));
+    show(mark as u64);
     show_bar();
     show_plan(rows);
     show_barred(barred);
-}
-
-// How the line of a point begins.
-pub fn show_first(point: u8) {
-    io::print_decimal(1, u64::from(point));
-    put(b':');
 }
 
 // How the line of the calls without a point begins.

@@ -13,14 +13,15 @@ const PENDANT: u64 = 0x0e090103_00000000;
 const PATH: u64 = 0x06010904_00000000;
 
 // With 1 placed and 3 barred, of four points: an unplaced point, a placed one, a barred one, and two numbers that are none.
-const OF_EACH_SORT: [u8; 10] = [0, 1, 3, 4, 255, 0, 0, 0, 0, 0];
+const OF_EACH_SORT: [u8; 5] = [0, 1, 3, 4, 255];
 
 // With 0 placed, of five points: the others.
-const BUT_0: [u8; 10] = [1, 2, 3, 4, 0, 0, 0, 0, 0, 0];
+const BUT_0: [u8; 4] = [1, 2, 3, 4];
 
 // For states that are damaged, or may be: a point that is unplaced there as a rule, and one that is barred as a rule.
-const OF_DAMAGED: [u8; 10] = [0, 3, 0, 0, 0, 0, 0, 0, 0, 0];
+const OF_DAMAGED: [u8; 2] = [0, 3];
 
+// Each parameter is one field of `Traversal`, so a struct for them would be `Traversal` itself.
 fn made(kind: u8, mark: Mark, n: usize, k: usize, plan: u64, barred: u64, walk: u64) -> Traversal {
     Traversal {
         kind: Kind(kind),
@@ -35,7 +36,8 @@ fn made(kind: u8, mark: Mark, n: usize, k: usize, plan: u64, barred: u64, walk: 
 
 // Of five points, of which 4 has no links.
 fn with_five(kind: u8, mark: Mark, k: usize, plan: u64, barred: u64, walk: u64) {
-    try_each(made(kind, mark, 5, k, plan, barred, walk), BUT_0, 4);
+    let points = BUT_0;
+    try_each(made(kind, mark, 5, k, plan, barred, walk), &points);
 }
 
 // Three walks that would fail if nothing were barred: BFS and LexBFS; all kinds but Generic and BFS; all kinds. In the last one 1 and 2 are level:
@@ -48,7 +50,8 @@ pub fn passing(kind: u8, mark: Mark) {
 }
 
 fn damage(kind: u8, mark: Mark, n: usize, k: usize, plan: u64, barred: u64, walk: u64) {
-    try_each(made(kind, mark, n, k, plan, barred, walk), OF_DAMAGED, 2);
+    let points = OF_DAMAGED;
+    try_each(made(kind, mark, n, k, plan, barred, walk), &points);
 }
 
 // A set with a number that is no point; a barred point that is placed; a walk that fails even without the barred point.
@@ -78,11 +81,8 @@ fn wrong_rest(kind: u8, mark: Mark) {
 
 // Well formed at first, then with one part damaged at a time.
 pub fn damaged(kind: u8, mark: Mark) {
-    try_each(
-        made(kind, mark, 4, 1, RING, 0x08, 0x10_000000),
-        OF_EACH_SORT,
-        5,
-    );
+    let points = OF_EACH_SORT;
+    try_each(made(kind, mark, 4, 1, RING, 0x08, 0x10_000000), &points);
     wrong_sets(kind, mark);
     wrong_rows(kind, mark);
     wrong_rest(kind, mark);

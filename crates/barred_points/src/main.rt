@@ -21,7 +21,7 @@ mod opens;
 ghost use Rattle.std.specs.Prelude.{◌≤◌};
 
 use calls::{grown, grown_by, open, try_each};
-use plans::next;
+use plans::{Links, next};
 use searches::Mark;
 use traversal::Traversal;
 
@@ -29,20 +29,18 @@ use traversal::Traversal;
 const POINTS: [u8; 10] = [0, 1, 2, 3, 4, 5, 6, 7, 8, 9];
 
 // Some of 64 points, and two numbers that are none.
-const SPREAD: [u8; 10] = [0, 9, 27, 36, 54, 63, 64, 255, 0, 0];
+const SPREAD: [u8; 8] = [0, 9, 27, 36, 54, 63, 64, 255];
 
 // How many points are barred.
-const NONE: u8 = 0;
-
-const ONE: u8 = 1;
-
-const TWO: u8 = 2;
-
-const QUARTER: u8 = 3;
-
-const MOST: u8 = 4;
-
-const ALL: u8 = 5;
+#[derive(Clone, Copy)]
+enum Barred {
+    Nothing,
+    One,
+    Two,
+    Quarter,
+    Most,
+    All,
+}
 
 // A set of one point, taken from the given set; of 0, if that is empty.
 fn one_of(set: u64, random: u64) -> u64 {
@@ -50,17 +48,17 @@ fn one_of(set: u64, random: u64) -> u64 {
 }
 
 // A random set of so many of the points below n.
-fn barred_set(how_many: u8, n: usize, random: u64) -> u64 {
+fn barred_set(how_many: Barred, n: usize, random: u64) -> u64 {
     let points = bitset::full_below(n);
     let r = next(random);
     let first = one_of(points, random);
     match how_many {
-        NONE => 0,
-        ONE => first,
-        TWO => first | one_of(bitset::without(points, first), r),
-        QUARTER => points & random & r,
-        MOST => points & (random | r),
-        _ => points,
+        Barred::Nothing => 0,
+        Barred::One => first,
+        Barred::Two => first | one_of(bitset::without(points, first), r),
+        Barred::Quarter => points & random & r,
+        Barred::Most => points & (random | r),
+        Barred::All => points,
     }
 }
 
@@ -68,24 +66,25 @@ fn barred_set(how_many: u8, n: usize, random: u64) -> u64 {
 fn try_all(traversal: Traversal) -> Traversal {
     let n = traversal.n;
     if n < 10 {
-        try_each(traversal, POINTS, n + 1)
+        let points = POINTS;
+        try_each(traversal, &points[..n + 1])
     } else {
         traversal
     }
 }
 
 // A random number for each kind, mark, n, number of links and number of barred points.
-fn seed(kind: u8, mark: Mark, n: usize, links: u8, how_many: u8) -> u64 {
+fn seed(kind: u8, mark: Mark, n: usize, links: Links, how_many: Barred) -> u64 {
     let digits = (n as u64)
-        ^ (u64::from(links) << 8)
+        ^ ((links as u64) << 8)
         ^ (u64::from(kind) << 16)
-        ^ (notation::number(mark) << 24)
-        ^ (u64::from(how_many) << 32);
+        ^ ((mark as u64) << 24)
+        ^ ((how_many as u64) << 32);
     next(next(next(digits ^ 0x9e3779b97f4a7c15)))
 }
 
 // A walk over all unbarred points of a small plan.
-fn play(kind: u8, mark: Mark, n: usize, links: u8, how_many: u8) -> Traversal
+fn play(kind: u8, mark: Mark, n: usize, links: Links, how_many: Barred) -> Traversal
     requires { n ≤ 9 }
 {
     let r = seed(kind, mark, n, links, how_many);
@@ -102,17 +101,17 @@ fn play(kind: u8, mark: Mark, n: usize, links: u8, how_many: u8) -> Traversal
 
 // A walk over three of four points; two are taken back, and one is placed.
 fn play_back(kind: u8, mark: Mark) {
-    let t = play(kind, mark, 4, plans::HALF, ONE);
+    let t = play(kind, mark, 4, Links::Half, Barred::One);
     let once = t.take_back();
     let t = once.traversal;
     let twice = t.take_back();
     let t = try_all(twice.traversal);
-    try_all(grown(t, seed(kind, mark, 4, plans::HALF, ALL)));
+    try_all(grown(t, seed(kind, mark, 4, Links::Half, Barred::All)));
 }
 
 // A walk over so many of 64 points, or over all that are not barred.
-fn play_on_largest(kind: u8, mark: Mark, how_many: u8, placed: usize) {
-    let r = seed(kind, mark, 64, plans::FEW, how_many);
+fn play_on_largest(kind: u8, mark: Mark, how_many: Barred, placed: usize) {
+    let r = seed(kind, mark, 64, Links::Few, how_many);
     let t = open(
         kind,
         mark,
@@ -120,18 +119,19 @@ fn play_on_largest(kind: u8, mark: Mark, how_many: u8, placed: usize) {
         64,
         barred_set(how_many, 64, r),
     );
-    try_each(grown_by(t, placed, r), SPREAD, 8);
+    let points = SPREAD;
+    try_each(grown_by(t, placed, r), &points);
 }
 
 fn marked(kind: u8, mark: Mark) {
-    play(kind, mark, 0, plans::HALF, NONE);
-    play(kind, mark, 1, plans::HALF, ALL);
-    play(kind, mark, 2, plans::MANY, ONE);
-    play(kind, mark, 3, plans::HALF, ALL);
-    play(kind, mark, 3, plans::HALF, NONE);
+    play(kind, mark, 0, Links::Half, Barred::Nothing);
+    play(kind, mark, 1, Links::Half, Barred::All);
+    play(kind, mark, 2, Links::Many, Barred::One);
+    play(kind, mark, 3, Links::Half, Barred::All);
+    play(kind, mark, 3, Links::Half, Barred::Nothing);
     play_back(kind, mark);
-    play(kind, mark, 5, plans::PIECES, TWO);
-    play(kind, mark, 6, plans::HALF, ONE);
+    play(kind, mark, 5, Links::Pieces, Barred::Two);
+    play(kind, mark, 6, Links::Half, Barred::One);
     made::passing(kind, mark);
     made::damaged(kind, mark);
     opens::refused(kind, mark);
@@ -143,24 +143,20 @@ fn played(kind: u8) {
 }
 
 fn main() {
-    played(0);
-    played(1);
-    played(2);
-    played(3);
-    played(4);
-    played(5);
-    played(6);
+    for kind in 0u8..7 {
+        played(kind);
+    }
     made::damaged(7, Mark::TwoWay);
     made::damaged(255, Mark::OneWay);
     opens::ordered(Mark::TwoWay);
     opens::ordered(Mark::OneWay);
-    play_on_largest(0, Mark::TwoWay, QUARTER, 16);
-    play_on_largest(1, Mark::OneWay, QUARTER, 16);
-    play_on_largest(2, Mark::TwoWay, QUARTER, 16);
-    play_on_largest(3, Mark::OneWay, QUARTER, 16);
-    play_on_largest(4, Mark::TwoWay, QUARTER, 16);
-    play_on_largest(5, Mark::OneWay, QUARTER, 16);
-    play_on_largest(6, Mark::TwoWay, QUARTER, 16);
-    play_on_largest(5, Mark::TwoWay, MOST, 8);
-    play_on_largest(6, Mark::OneWay, MOST, 64);
+    play_on_largest(0, Mark::TwoWay, Barred::Quarter, 16);
+    play_on_largest(1, Mark::OneWay, Barred::Quarter, 16);
+    play_on_largest(2, Mark::TwoWay, Barred::Quarter, 16);
+    play_on_largest(3, Mark::OneWay, Barred::Quarter, 16);
+    play_on_largest(4, Mark::TwoWay, Barred::Quarter, 16);
+    play_on_largest(5, Mark::OneWay, Barred::Quarter, 16);
+    play_on_largest(6, Mark::TwoWay, Barred::Quarter, 16);
+    play_on_largest(5, Mark::TwoWay, Barred::Most, 8);
+    play_on_largest(6, Mark::OneWay, Barred::Most, 64);
 }

@@ -77,6 +77,7 @@ pub fn size(set: u64) -> usize
 }
 
 // The smallest number of the set; 64 where it is empty.
+// No Option: the loops over a set ask only while it has a number, and `is_unexcused` of `violation` compares with the 64.
 pub fn smallest(set: u64) -> usize
     ensures { result ≡ first_below 64 (member set) }
 {

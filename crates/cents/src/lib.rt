@@ -11,7 +11,8 @@ pub enum Halves {
     ToEven,
 }
 
-// The exact product, in sixtieths of a cent, rounded to the nearest cent. The largest product takes 33 bits.
+// The exact product, in sixtieths of a cent, rounded to the nearest cent. The largest product takes 33 bits. The rule is
+// a parameter, as it is one of `cents_by` of specs/Cents.antt, by which both charges are stated.
 pub fn cents_by(product: u64, halves: Halves) -> u64
     requires { product ≤ largest_product }
     ensures { result ≡ cents_by halves product }

@@ -1,4 +1,3 @@
-pub mod Chains
 pub mod Charging
 pub mod Stated
 pub mod Billing

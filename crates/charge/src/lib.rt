@@ -42,7 +42,8 @@ pub fn charge_halves_up(
     bill_by(kind, mark, rows, ordering, minutes, rate, Halves::Up)
 }
 
-// The charge with either rule for halves. What is refused and the exact product do not depend on the rule.
+// The charge with either rule for halves. What is refused and the exact product do not depend on the rule. Six of the seven parameters are those of the two
+// public functions, which stay as they are; the rule is one, as in `bill_by` of specs/Charge.antt.
 fn bill_by(
     kind: Kind,
     mark: Mark,

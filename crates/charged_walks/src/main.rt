@@ -11,11 +11,11 @@ mod products;
 
 ghost use Rattle.std.specs.Prelude.{◌≤◌};
 
-use crate::lines::play_on;
+use crate::lines::play;
+use notation::{places_of, rows_of};
 use searches::Mark;
 
-// Plans and walks are written as digits (`rows_of` and `places_of` of `notation`). Beside a plan stands how many points it has, and beside a walk or a
-// list of minutes how many of its places or entries count.
+// Plans and walks are written as digits (`rows_of` and `places_of` of `notation`). Beside a walk stands how many of its places count.
 
 // The links 0-1, 0-2, 1-3.
 const TREE: u64 = 0x06090102_00000000;
@@ -45,34 +45,37 @@ const UPSTREAM: u64 = 0x3102_0000;
 // On the ring this fails every search, and its first point alone passes.
 const FAILING: u64 = 0x02_000000;
 
-const MINUTES: [u16; 5] = [10, 20, 5, 30, 0];
+const MINUTES: [u16; 4] = [10, 20, 5, 30];
 
 const LONG: [u16; 5] = [999, 0, 1, 998, 7];
 
-// A walk at several rates, among them the largest, and one above it. There are as many minutes as points.
-fn rated(kind: u8, mark: Mark, plan: u64, n: usize, walk: u64, k: usize, minutes: [u16; 5])
-    requires { (n ≤ 5) × (k ≤ 64) }
-{
-    play_on(kind, mark, plan, n, walk, k, minutes, n, 0);
-    play_on(kind, mark, plan, n, walk, k, minutes, n, 29);
-    play_on(kind, mark, plan, n, walk, k, minutes, n, 30);
-    play_on(kind, mark, plan, n, walk, k, minutes, n, 31);
-    play_on(kind, mark, plan, n, walk, k, minutes, n, 4530);
-    play_on(kind, mark, plan, n, walk, k, minutes, n, 99999);
-    play_on(kind, mark, plan, n, walk, k, minutes, n, 100000);
+// The rates, among them the largest, and one above it.
+const RATES: [u64; 7] = [0, 29, 30, 31, 4530, 99999, 100000];
+
+// A walk at each rate.
+fn rated(kind: u8, mark: Mark, rows: &[u64], ordering: &[u8], minutes: &[u16]) {
+    for rate in RATES {
+        play(kind, mark, rows, ordering, minutes, rate);
+    }
 }
 
 // On a plan of four points.
 fn on_four(kind: u8, mark: Mark, plan: u64, walk: u64, k: usize)
     requires { k ≤ 64 }
 {
-    rated(kind, mark, plan, 4, walk, k, MINUTES);
+    let rows = rows_of(plan);
+    let places = places_of(walk);
+    let minutes = MINUTES;
+    rated(kind, mark, &rows[..4], &places[..k], &minutes);
 }
 
 fn on_pieces(kind: u8, mark: Mark, walk: u64, k: usize)
     requires { k ≤ 64 }
 {
-    rated(kind, mark, PIECES, 5, walk, k, LONG);
+    let rows = rows_of(PIECES);
+    let places = places_of(walk);
+    let minutes = LONG;
+    rated(kind, mark, &rows[..5], &places[..k], &minutes);
 }
 
 // On plans whose links all go both ways.
@@ -110,7 +113,16 @@ fn played(kind: u8) {
 fn wrong(mark: Mark, plan: u64, walk: u64, k: usize)
     requires { k ≤ 64 }
 {
-    play_on(6, mark, plan, 4, walk, k, [1000; 5], 3, 100000);
+    let rows = rows_of(plan);
+    let places = places_of(walk);
+    play(
+        6,
+        mark,
+        &rows[..4],
+        &places[..k],
+        &[1000, 1000, 1000],
+        100000,
+    );
 }
 
 // More points than there can be, and everything else wrong as well.
@@ -118,7 +130,7 @@ fn crowded(kind: u8, mark: Mark) {
     let rows = [1u64; 65];
     let ordering = [99u8; 66];
     let few = [1000u16; 3];
-    lines::play(kind, mark, &rows, &ordering, &few, 100000);
+    play(kind, mark, &rows, &ordering, &few, 100000);
 }
 
 // Refused by judge's own tests: each call is given everything wrong that is tried after what it is refused for. The plans are the ring with another
@@ -135,39 +147,39 @@ fn refused_walks(mark: Mark) {
 }
 
 // The walk that fails, or its first point alone.
-fn billed(mark: Mark, k: usize, minutes: [u16; 5], m: usize, rate: u64)
-    requires { (k ≤ 64) × (m ≤ 5) }
+fn billed(mark: Mark, k: usize, minutes: &[u16], rate: u64)
+    requires { k ≤ 64 }
 {
-    play_on(6, mark, RING, 4, FAILING, k, minutes, m, rate);
+    let rows = rows_of(RING);
+    let places = places_of(FAILING);
+    play(6, mark, &rows[..4], &places[..k], minutes, rate);
 }
 
 // Refused with 18, 19 and 20 likewise: for a list that is too short, too long, or has an entry above 999, for the rate, and for the walk. Then with
 // nothing wrong but an entry of a point that is not placed, and with nothing wrong at all.
 fn refused_bills(mark: Mark) {
-    billed(mark, 2, MINUTES, 3, 100000);
-    billed(mark, 2, LONG, 5, 100000);
-    billed(mark, 2, [10, 20, 5, 1000, 0], 4, 100000);
-    billed(mark, 2, [65535, 20, 5, 30, 0], 4, 100000);
-    billed(mark, 2, MINUTES, 4, 100000);
-    billed(mark, 2, MINUTES, 4, 18446744073709551615);
-    billed(mark, 2, MINUTES, 4, 99999);
-    billed(mark, 1, [10, 20, 5, 1000, 0], 4, 99999);
-    billed(mark, 1, MINUTES, 4, 99999);
+    let minutes = MINUTES;
+    let long = LONG;
+    billed(mark, 2, &minutes[..3], 100000);
+    billed(mark, 2, &long, 100000);
+    billed(mark, 2, &[10, 20, 5, 1000], 100000);
+    billed(mark, 2, &[65535, 20, 5, 30], 100000);
+    billed(mark, 2, &minutes, 100000);
+    billed(mark, 2, &minutes, 18446744073709551615);
+    billed(mark, 2, &minutes, 99999);
+    billed(mark, 1, &[10, 20, 5, 1000], 99999);
+    billed(mark, 1, &minutes, 99999);
 }
 
 // No points at all.
 fn empty(kind: u8, mark: Mark) {
-    rated(kind, mark, 0, 0, 0, 0, MINUTES);
+    rated(kind, mark, &[], &[], &[]);
 }
 
 fn main() {
-    played(0);
-    played(1);
-    played(2);
-    played(3);
-    played(4);
-    played(5);
-    played(6);
+    for kind in 0u8..7 {
+        played(kind);
+    }
     products::halves();
     products::small_products();
     products::large_products();

@@ -4,7 +4,7 @@ use searches::Mark;
 
 // A walk of one point, for so many minutes.
 fn single(minutes: u16, rate: u64) {
-    lines::play_on(0, Mark::TwoWay, 0, 1, 0, 1, [minutes; 5], 1, rate);
+    lines::play(0, Mark::TwoWay, &[0], &[0], &[minutes], rate);
 }
 
 // Halves of a cent, products just below and just above one, and the longest point at the highest rate.

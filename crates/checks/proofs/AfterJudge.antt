@@ -2,7 +2,7 @@
 --   not_judged                               judge has no test with a number above 9
 --   unpassed_fails, fails_unpassed           not passing means that judge's answer is a failure;   fails_accepts   what fails is not refused
 --   judged_refused                           what judge's answer leaves of all tests: its refusal,
---   passed_decided, failed_decided           or, where it is a verdict, those behind it
+--   passed_decided, failed_decided           or, where it is a verdict, those behind it;   decided   the same of a judgement
 -- Assumes nothing.
 use mathlib.Core.Path.{◌≡◌, refl, sym, ap, ◌∙◌, subst}
 use mathlib.Core.Logic.{◌⊎◌, inl, inr}
@@ -13,15 +13,18 @@ use Prim.Native.Nat.{ℕ, ◌<◌}
 use native.Mathlib.Omega.{arith}
 use lib.Dec.{T}
 use lib.ListN.{length}
+use Rattle.std.specs.Prelude.{Ok}
 use Rattle.searches.specs.Kind.{search_of}
 use Rattle.searches.specs.Ordering.{arcs}
 use Rattle.searches.specs.Violation.{Verdict, passes, fails, refused, Fails, judge}
 use Rattle.searches.specs.declared.Mark.{Mark}
-use Rattle.searches.specs.Answer.{is_pass, open_tests, judge_tests, first_refusal, Accepts, Refuses, judge_answer}
+use Rattle.searches.specs.declared.Vertex.{Vertex}
+use Rattle.searches.specs.declared.Judgement.{Judgement}
+use Rattle.searches.specs.Answer.{is_pass, open_tests, judge_tests, first_refusal, Accepts, Refuses, judge_answer, verdict_of}
 use Rattle.searches.proofs.Numbered.{Without}
 use Rattle.searches.proofs.Refusals.{refuses_first, accepts_none, accepts_or_refuses}
 use Rattle.searches.proofs.Answers.{judge_accepted, judge_refused, refused_judge}
-use Rattle.checks.proofs.Tried.{tried_first, refused_before}
+use Rattle.checks.proofs.Tried.{Tried, tried_first, refused_before}
 
 is_refused : Verdict → Bool
 is_refused passes = false
@@ -92,3 +95,9 @@ module _ (kind : ℕ) (mark : Mark) (rows w : List ℕ) where
         → first_refusal (later (is_pass (fails a b c))) ≡ first_refusal (judge_tests kind mark rows w ++ later (is_pass verdict))
     unfolding is_refused
     failed_decided e = judged_decided e (unrefused tt)
+
+    pub decided : (j : Judgement Vertex) → verdict_of (Ok j) ≡ judge_answer kind mark rows w
+        → Tried (judge_tests kind mark rows w ++ later (is_pass verdict)) (later (is_pass (verdict_of (Ok j))))
+    unfolding verdict_of
+    decided Judgement.Passes e = record { same = passed_decided e }
+    decided (Judgement.Fails v) e = record { same = failed_decided e }

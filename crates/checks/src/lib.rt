@@ -5,8 +5,8 @@
 pub mod number;
 pub mod two_way;
 
-ghost use Rattle.std.specs.Prelude.{◌≡◌, [], ◌∷◌};
-ghost use Rattle.searches.specs.Answer.{open_tests, open_tests_barring, judge_tests_barring, list_tests_barring, first_refusal, refusal_of};
+ghost use Rattle.std.specs.Prelude.{◌≡◌, [], ◌∷◌, ◌≤◌};
+ghost use Rattle.searches.specs.Answer.{open_tests, open_tests_barring, ordering_tests, judge_tests_barring, list_tests_barring, first_refusal, refusal_of};
 
 use searches::{Kind, Mark, Refusal};
 
@@ -62,18 +62,12 @@ fn entries_refusal(twice: bool, out_of_service: bool) -> Result<(), Refusal>
     Ok(())
 }
 
-// The first of refusals 1 to 5, 23, 6, 8, 9 and 24, in this order, that applies to `ordering` on this graph, else `Ok`. It alters no list.
-pub fn judge_refusal(
-    kind: Kind,
-    mark: Mark,
-    rows: &[u64],
-    barred: u64,
-    ordering: &[u8],
-) -> Result<(), Refusal>
-    ensures { refusal_of result ≡ first_refusal (judge_tests_barring kind.0 mark rows.now barred ordering.now) }
+// The first of refusals 6, 8, 9 and 24, in this order, that applies to `ordering` on a graph of `n` vertices, in whatever form it is given, without the barred
+// ones, else `Ok`. It alters no list. `n` is no length of the list.
+pub fn ordering_refusal(n: usize, barred: u64, ordering: &[u8]) -> Result<(), Refusal>
+    requires { n ≤ 64 }
+    ensures { refusal_of result ≡ first_refusal (ordering_tests n barred ordering.now) }
 {
-    open_refusal(kind, mark, rows, barred)?;
-    let n = rows.len();
     let length = ordering.len();
     if n < length {
         return Err(Refusal::OrderingTooLong);
@@ -86,8 +80,22 @@ pub fn judge_refusal(
     entries_refusal(twice, out_of_service)
 }
 
+// The first of refusals 1 to 5, 23, 6, 8, 9 and 24, in this order, that applies to `ordering` on this graph, else `Ok`. It alters no list.
+pub fn judge_refusal(
+    kind: Kind,
+    mark: Mark,
+    rows: &[u64],
+    barred: u64,
+    ordering: &[u8],
+) -> Result<(), Refusal>
+    ensures { refusal_of result ≡ first_refusal (judge_tests_barring kind.0 mark rows.now barred ordering.now) }
+{
+    open_refusal(kind, mark, rows, barred)?;
+    ordering_refusal(rows.len(), barred, ordering)
+}
+
 // The first of refusals 1 to 5, 23, 6, 10, 7, 8, 9 and 24, in this order, that applies to carrying on the first `k` entries of
-// `output`, else `Ok`. It alters no list, and any `k` may be given.
+// `output`, else `Ok`. It alters no list, and any `k` may be given. The seven parameters are those of `list_tests_barring`, with which PROMISES names the call.
 pub fn list_refusal(
     kind: Kind,
     mark: Mark,

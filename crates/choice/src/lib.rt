@@ -34,6 +34,7 @@ pub fn rank(tie_break: &[u8], ranks: &mut [u8; 64])
 }
 
 // The vertex of `set` that stands last in `tie_break`; its first entry where the set is empty. `ranks` says where each vertex stands.
+// No Option, here and in `choose`: `last_below` of the clauses has the first entry then.
 fn last_of(tie_break: &[u8], ranks: &[u8; 64], set: u64) -> Vertex
     requires { (length tie_break.now ≤ 64) × Ranked tie_break.now ranks.now × Named tie_break.now set }
     ensures { result.0 ≡ at tie_break.now (last_below (length tie_break.now) (λ q. member set (at tie_break.now q))) }

@@ -1,21 +1,26 @@
 -- The cycle while it is written.
 --   Writing arc w i l j out₀ out q written   the first vertices of the cycle are written, as many as are told, and the descent has come to q
+--   low_first, low_last                  the descent goes to no position before i, and only from one above i
 --   begun                                the first two
 --   writing_start, writing_next          where the loop begins, and after one step more
 --   writing_inside, writing_falls, writing_room   the descent stays below l, its positions fall, and while it is above i there is room for one vertex more
+--   writing_stops                        from a position from which it goes nowhere it has come to i
 --   writing_end                          at i, the cycle is as long as was counted
 -- Assumes nothing.
 use Prim.Native.Nat.{ℕ, suc, ◌+◌, ◌≤◌, ◌<◌}
 use mathlib.Core.Path.{◌≡◌, refl, sym, ap, ◌∙◌, subst}
-use mathlib.Core.Bool.{Bool}
+use mathlib.Core.Bool.{Bool, not, ◌&&◌, ◌||◌}
 use mathlib.Core.Logic.{◌⊎◌, inl, inr}
 use mathlib.Core.List.{List}
 use native.Mathlib.Omega.{arith}
 use native.Mathlib.Numerals.{add-one}
+use lib.Dec.{T, eqb, eqb→eq, ltb, ltb→lt}
 use lib.ListN.{length, set}
-use Rattle.bitset.proofs.Tests.{below_or}
+use Rattle.bitset.specs.Below.{first_below}
+use Rattle.bitset.proofs.Tests.{and_out, or_out, below_or}
+use Rattle.bitset.proofs.Below.{first}
 use Rattle.searches.specs.Ordering.{arcs, at}
-use Rattle.chordal.specs.Descent.{Gap, next, stop, steps, cycle_at, cycle_length, cycle_vertex}
+use Rattle.chordal.specs.Descent.{Gap, joined, opened, step, next, stop, steps, cycle_at, cycle_length, cycle_vertex}
 use Rattle.chordal.specs.Lists.{Ordered}
 use Rattle.chordal.proofs.Descent.{stays_over, moves, stops_at, under_top, cycle_fits}
 use Rattle.chordal.proofs.Listing.{Filled, filled_none, filled_more, filled_anew}
@@ -26,6 +31,26 @@ pub record Writing (arc : ℕ → ℕ → Bool) (w : List ℕ) (i l j : ℕ) (ou
   pub upto : s ≤ steps arc w i l j
   pub here : q ≡ stop arc w i l j s
   pub filled : Filled (cycle_vertex arc w i l j) out₀ out written
+
+module _ (arc : ℕ → ℕ → Bool) (w : List ℕ) (i l : ℕ) where
+  pub low_first : (q d : ℕ) → d < i → T (step arc w i l q d) → ⊥
+  unfolding step opened
+  low_first q d under t =
+      go (or_out (eqb d i) (ltb i d && not (joined arc w d l)) (and_out (eqb d i || (ltb i d && not (joined arc w d l))) (joined arc w d q) t).0)
+    where
+      go : T (eqb d i) ⊎ T (ltb i d && not (joined arc w d l)) → ⊥
+      go (inl here) = omega (arith, eqb→eq d i here, under)
+      go (inr above) = omega (arith, ltb→lt i d (and_out (ltb i d) (not (joined arc w d l)) above).0, under)
+
+  pub low_last : (q : ℕ) → next arc w i l q < q → i < q
+  unfolding next
+  low_last q falls = go (below_or i q)
+    where
+      go : (i < q) ⊎ (q ≤ i) → i < q
+      go (inl over) = over
+      go (inr under) =
+          let x = first q (step arc w i l q) in
+          absurd (low_first q (first_below q (step arc w i l q)) (omega (arith, falls, under)) (x.holds falls))
 
 module _ (arc : ℕ → ℕ → Bool) (w : List ℕ) (i l j : ℕ) where
   pub begun : {u v : ℕ} (out : List ℕ) → 2 ≤ length out → u ≡ at w l → v ≡ at w j → Filled (cycle_vertex arc w i l j) out (set (set out 0 u) 1 v) 2
@@ -71,6 +96,13 @@ module _ (rows w : List ℕ) (i j l : ℕ) (ordered : Ordered rows w) (gap : Gap
     writing_falls over =
         subst (λ (p : ℕ). next (arcs rows) w i l p < p) (sym x.here)
         (moves (arcs rows) n w ordered.all ordered.passing i j l gap x.s (going over)).under
+
+    pub writing_stops : next (arcs rows) w i l q ≡ q → q ≤ i
+    writing_stops none = go (below_or i q)
+      where
+        go : (i < q) ⊎ (q ≤ i) → q ≤ i
+        go (inl over) = absurd (omega (arith, writing_falls over, none))
+        go (inr low) = low
 
     pub writing_next : {d v : ℕ} → i < q → n ≤ length out₀ → d ≡ next (arcs rows) w i l q → v ≡ at w d
         → Writing (arcs rows) w i l j out₀ (set out written v) d (written + 1)

@@ -51,11 +51,9 @@ fn answer_from(rows: &[u64], ordering: &[u8], output: &mut [u8]) -> Chordality
     requires { Ordered rows.now ordering.now × (length rows.now ≤ length output.old) }
     ensures { Shown (arcs rows.now) (length rows.now) output.old (answer_of (Ok result)) output.new }
 {
-    let Some(top) = gap::first_top(rows, ordering) else {
+    let Some(gap) = gap::first_gap(rows, ordering) else {
         order::write_turned(ordering, rows.len(), output);
         return Chordality::Chordal;
     };
-    let middle = gap::first_middle(rows, ordering, top);
-    let low = gap::first_low(rows, ordering, top, middle);
-    Chordality::Cycle(cycle::write_cycle(rows, ordering, low, middle, top, output))
+    Chordality::Cycle(cycle::write_cycle(rows, ordering, gap, output))
 }

@@ -9,7 +9,7 @@ ghost use Rattle.chordal.specs.Lists.{Ordered};
 use lookup::vertex_at;
 use searches::{Kind, Mark, Position};
 
-// Writes the numbers 0 to 63.
+// Writes the numbers 0 to 63. `write_numbers` of `conversion` writes those of a set.
 fn write_numbers(list: &mut [u8; 64])
     requires { length list.old ≡ 64 }
     ensures { list.new ≡ numbers 64 }
@@ -46,6 +46,7 @@ pub fn write_turned(ordering: &[u8], n: usize, output: &mut [u8])
     requires { (n ≤ length ordering.now) × (n ≤ length output.old) }
     ensures { output.new ≡ listed n (turned ordering.now n) ++ drop n output.old }
 {
+    // the number is a position, which only `vertex_at` turns into the vertex there
     for q in 0..n {
         let p = n - 1 - q;
         output[p] = vertex_at(ordering, Position(q)).0;

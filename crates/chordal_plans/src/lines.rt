@@ -2,7 +2,7 @@
 ghost use Rattle.std.specs.Prelude.{◌≤◌};
 
 use chordal::Chordality;
-use notation::{number, put, show, show_bar, show_list, show_plan};
+use notation::{put, show, show_bar, show_list, show_plan};
 use searches::{Mark, Refusal};
 
 // The answer: y for a plan without a chordless ring, n and the length of the ring, or r and the number of the refusal.
@@ -21,7 +21,7 @@ pub fn show_answer(answer: Result<Chordality, Refusal>) {
 }
 
 fn play(mark: Mark, rows: &[u64], output: &mut [u8]) {
-    io::print_decimal(1, number(mark));
+    io::print_decimal(1, mark as u64);
     show(rows.len() as u64);
     show_bar();
     show_plan(rows);
@@ -40,11 +40,4 @@ pub fn decide(mark: Mark, rows: &[u64], room: usize)
 {
     let mut output = notation::fresh();
     play(mark, rows, &mut output[..room]);
-}
-
-// The same on the first n rows.
-pub fn decide_on(mark: Mark, rows: [u64; 64], n: usize, room: usize)
-    requires { (n ≤ 64) × (room ≤ 66) }
-{
-    decide(mark, &rows[..n], room);
 }

@@ -15,9 +15,9 @@ mod small;
 
 ghost use Rattle.std.specs.Prelude.{◌≤◌};
 
-use crate::lines::decide_on;
+use crate::lines::decide;
 use crate::shapes::{complement, ring};
-use plans::next;
+use plans::{Links, next};
 use searches::Mark;
 
 // Plans are written as digits (`rows_of` of `notation`).
@@ -30,33 +30,37 @@ fn empty() -> [u64; 64] {
     [0u64; 64]
 }
 
-fn two_way(rows: [u64; 64], n: usize, room: usize)
-    requires { (n ≤ 64) × (room ≤ 66) }
+fn two_way(rows: &[u64], room: usize)
+    requires { room ≤ 66 }
 {
-    decide_on(Mark::TwoWay, rows, n, room);
+    decide(Mark::TwoWay, rows, room);
 }
 
 // A ring of n points, and n points with all the other links.
 fn rings(n: usize)
     requires { n ≤ 64 }
 {
-    two_way(ring(n), n, n);
-    two_way(complement(n, ring(n)), n, n);
+    let rows = ring(n);
+    let others = complement(n, rows);
+    two_way(&rows[..n], n);
+    two_way(&others[..n], n);
 }
 
 // A ring of n of 64 points.
 fn ring_of_some(n: usize)
     requires { n ≤ 64 }
 {
-    two_way(ring(n), 64, 66);
+    two_way(&ring(n), 66);
 }
 
 // With every link, and with none.
 fn all_or_none(n: usize)
     requires { n ≤ 64 }
 {
-    two_way(complement(n, empty()), n, n);
-    two_way(empty(), n, n);
+    let none = empty();
+    let all = complement(n, none);
+    two_way(&all[..n], n);
+    two_way(&none[..n], n);
 }
 
 // A random number for each number of points.
@@ -68,7 +72,16 @@ fn seed(n: usize) -> u64 {
 fn without_rings(n: usize)
     requires { n ≤ 64 }
 {
-    two_way(plans::grown(n, seed(n)), n, n + 1);
+    let rows = plans::grown(n, seed(n));
+    two_way(&rows[..n], n + 1);
+}
+
+// A random plan of n points, with an output list of so many bytes.
+fn random(n: usize, links: Links, random: u64, room: usize)
+    requires { (n ≤ 64) × (room ≤ 66) }
+{
+    let rows = plans::small(Mark::TwoWay, n, links, random);
+    two_way(&rows[..n], room);
 }
 
 // Random plans of n points.
@@ -76,14 +89,10 @@ fn any_links(n: usize)
     requires { n ≤ 64 }
 {
     let r = seed(n);
-    two_way(plans::small(Mark::TwoWay, n, plans::FEW, r), n, n + 1);
-    two_way(plans::small(Mark::TwoWay, n, plans::HALF, next(r)), n, n);
-    two_way(
-        plans::small(Mark::TwoWay, n, plans::MANY, next(next(r))),
-        n,
-        n + 2,
-    );
-    two_way(plans::small(Mark::TwoWay, n, plans::PIECES, r), n, n);
+    random(n, Links::Few, r, n + 1);
+    random(n, Links::Half, next(r), n);
+    random(n, Links::Many, next(next(r)), n + 2);
+    random(n, Links::Pieces, r, n);
 }
 
 // Plans of n points. There are more of them where n is from 7 to 30.
@@ -105,14 +114,15 @@ fn decide_each_size() {
 
 // Four points, as digits, with an output list of three bytes.
 fn wrong(mark: Mark, plan: u64) {
-    decide_on(mark, notation::rows_of(plan), 4, 3);
+    let rows = notation::rows_of(plan);
+    decide(mark, &rows[..4], 3);
 }
 
 // Each call is given everything wrong that is tried after what it is refused for. Three plans are the tree with another first row: with 0 linked to itself, to 1
 // and to 4; to itself and to 1; to 1 alone. In each of them 2 leads to 0, and 0 not to 2.
 fn refused(mark: Mark) {
     let crowd = [1u64; 65];
-    lines::decide(mark, &crowd, 0);
+    decide(mark, &crowd, 0);
     wrong(mark, 0x13090102_00000000);
     wrong(mark, 0x03090102_00000000);
     wrong(mark, 0x02090102_00000000);
@@ -121,13 +131,15 @@ fn refused(mark: Mark) {
 
 // With an output list of just n bytes, of one byte fewer, of none, and on no points.
 fn rooms(mark: Mark) {
-    decide_on(mark, notation::rows_of(TREE), 4, 4);
-    decide_on(mark, notation::rows_of(TREE), 4, 0);
-    decide_on(mark, empty(), 64, 63);
-    decide_on(mark, empty(), 64, 64);
-    decide_on(mark, empty(), 1, 0);
-    decide_on(mark, empty(), 0, 0);
-    decide_on(mark, empty(), 0, 3);
+    let tree = notation::rows_of(TREE);
+    let none = empty();
+    decide(mark, &tree[..4], 4);
+    decide(mark, &tree[..4], 0);
+    decide(mark, &none, 63);
+    decide(mark, &none, 64);
+    decide(mark, &none[..1], 0);
+    decide(mark, &none[..0], 0);
+    decide(mark, &none[..0], 3);
 }
 
 fn main() {
@@ -144,8 +156,8 @@ fn main() {
     all_or_none(33);
     all_or_none(63);
     all_or_none(64);
-    two_way(plans::largest(Mark::TwoWay, seed(65)), 64, 64);
-    two_way(notation::in_a_row(), 64, 64);
+    two_way(&plans::largest(Mark::TwoWay, seed(65)), 64);
+    two_way(&notation::in_a_row(), 64);
     refused(Mark::TwoWay);
     refused(Mark::OneWay);
     rooms(Mark::TwoWay);

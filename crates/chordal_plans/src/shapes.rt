@@ -19,8 +19,8 @@ pub fn ring(n: usize) -> [u64; 64]
     requires { n ≤ 64 }
 {
     let mut rows = [0u64; 64];
-    for u in 0..n {
-        rows[u] = bitset::insert(bitset::insert(0, before(n, u)), after(n, u));
+    for (u, row) in rows[..n].iter_mut().enumerate() {
+        *row = bitset::insert(bitset::insert(0, before(n, u)), after(n, u));
     }
     rows
 }
@@ -29,10 +29,10 @@ pub fn ring(n: usize) -> [u64; 64]
 pub fn complement(n: usize, rows: [u64; 64]) -> [u64; 64]
     requires { n ≤ 64 }
 {
-    let mut others = [0u64; 64];
-    for u in 0..n {
+    let mut others = rows;
+    for (u, row) in others[..n].iter_mut().enumerate() {
         let points = bitset::remove(bitset::full_below(n), u);
-        others[u] = bitset::without(points, rows[u]);
+        *row = bitset::without(points, *row);
     }
     others
 }

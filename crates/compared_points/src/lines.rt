@@ -1,5 +1,5 @@
 // The lines that are printed.
-use notation::{number, put, show, show_entries};
+use notation::put;
 use traversal::Traversal;
 
 // The line of an open walk.
@@ -8,17 +8,6 @@ pub fn show_walk(traversal: Traversal) {
     let mark = traversal.mark;
     let rows = traversal.rows;
     let places = traversal.ordering;
-    io::print_decimal(1, u64::from(kind.0));
-    show(number(mark));
-    show(traversal.n as u64);
-    show(traversal.k as u64);
-    show_entries(&rows, traversal.n);
-    show_entries(&places, traversal.k);
+    notation::show_walk(kind, mark, &rows, traversal.n, &places, traversal.k);
     put(b'\n');
-}
-
-// How the line of a point begins.
-pub fn show_first(point: u8) {
-    io::print_decimal(1, u64::from(point));
-    put(b':');
 }

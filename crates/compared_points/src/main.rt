@@ -13,7 +13,7 @@ mod lines;
 
 ghost use Rattle.std.specs.Prelude.{◌≤◌};
 
-use plans::next;
+use plans::{Links, next};
 use searches::{Kind, Mark, Vertex};
 use traversal::Traversal;
 
@@ -23,8 +23,8 @@ const POINTS: [u8; 10] = [0, 1, 2, 3, 4, 5, 6, 7, 8, 9];
 // Some of 64 points, and two numbers that are none.
 const SPREAD: [u8; 10] = [0, 9, 18, 27, 36, 45, 54, 63, 64, 255];
 
-// With four points of which 1 is placed: an unplaced point, a placed one, and a number that is none. Only these three are compared.
-const OF_EACH_SORT: [u8; 10] = [0, 1, 4, 0, 0, 0, 0, 0, 0, 0];
+// With four points of which 1 is placed: an unplaced point, a placed one, and a number that is none.
+const OF_EACH_SORT: [u8; 3] = [0, 1, 4];
 
 // Plans and walks are written as digits (`rows_of` and `places_of` of `notation`).
 
@@ -45,27 +45,23 @@ fn compare(traversal: Traversal, first: u8, second: u8) -> Traversal {
     compared.traversal
 }
 
-// The line of a number: it is compared with each of the first `count` numbers of the list.
-fn against_each(traversal: Traversal, first: u8, points: [u8; 10], count: usize) -> Traversal
-    requires { count ≤ 10 }
-{
-    lines::show_first(first);
+// The line of a number: it is compared with each number of the list.
+fn against_each(traversal: Traversal, first: u8, points: &[u8]) -> Traversal {
+    notation::show_first(first);
     let mut t = traversal;
-    for p in 0..count {
-        t = compare(t, first, points[p]);
+    for point in points {
+        t = compare(t, first, *point);
     }
     notation::put(b'\n');
     t
 }
 
-// Each of the first `count` numbers of the list compared with each of them.
-fn compare_each(traversal: Traversal, points: [u8; 10], count: usize) -> Traversal
-    requires { count ≤ 10 }
-{
+// Each number of the list compared with each of them.
+fn compare_each(traversal: Traversal, points: &[u8]) -> Traversal {
     lines::show_walk(traversal);
     let mut t = traversal;
-    for p in 0..count {
-        t = against_each(t, points[p], points, count);
+    for point in points {
+        t = against_each(t, *point, points);
     }
     lines::show_walk(t);
     t
@@ -75,13 +71,14 @@ fn compare_each(traversal: Traversal, points: [u8; 10], count: usize) -> Travers
 fn compare_all(traversal: Traversal) -> Traversal {
     let n = traversal.n;
     if n < 10 {
-        compare_each(traversal, POINTS, n + 1)
+        let points = POINTS;
+        compare_each(traversal, &points[..n + 1])
     } else {
         traversal
     }
 }
 
-// With an offered point placed; where all are placed, as it was.
+// With an offered point placed; where all are placed, as it was. `plans` and `notation` know no open walk, so `barred_points` has its own.
 fn grown(traversal: Traversal, random: u64) -> Traversal {
     let seen = traversal.offered();
     let set = seen.set.unwrap_or(0);
@@ -92,27 +89,21 @@ fn grown(traversal: Traversal, random: u64) -> Traversal {
 
 fn grown_by_four(traversal: Traversal, random: u64) -> Traversal {
     let mut t = traversal;
-    let mut r = next(random);
-    t = grown(t, r);
-    r = next(r);
-    t = grown(t, r);
-    r = next(r);
-    t = grown(t, r);
-    r = next(r);
-    t = grown(t, r);
+    let mut r = random;
+    for _ in 0..4 {
+        r = next(r);
+        t = grown(t, r);
+    }
     t
 }
 
 fn grown_by_sixteen(traversal: Traversal, random: u64) -> Traversal {
     let mut t = traversal;
-    let mut r = next(random);
-    t = grown_by_four(t, r);
-    r = next(r);
-    t = grown_by_four(t, r);
-    r = next(r);
-    t = grown_by_four(t, r);
-    r = next(r);
-    t = grown_by_four(t, r);
+    let mut r = random;
+    for _ in 0..4 {
+        r = next(r);
+        t = grown_by_four(t, r);
+    }
     t
 }
 
@@ -129,11 +120,11 @@ fn step_back(traversal: Traversal) -> Traversal {
 }
 
 // A random number for each kind, mark, n and number of links.
-fn seed(kind: u8, mark: Mark, n: usize, links: u8) -> u64 {
+fn seed(kind: u8, mark: Mark, n: usize, links: Links) -> u64 {
     let digits = (n as u64)
-        ^ (u64::from(links) << 8)
+        ^ ((links as u64) << 8)
         ^ (u64::from(kind) << 16)
-        ^ (notation::number(mark) << 24);
+        ^ ((mark as u64) << 24);
     next(next(next(digits ^ 0x9e3779b97f4a7c15)))
 }
 
@@ -151,7 +142,7 @@ fn start(kind: u8, mark: Mark, n: usize, rows: [u64; 64]) -> Traversal {
 }
 
 // A walk over all of at most six points.
-fn play(kind: u8, mark: Mark, n: usize, links: u8) -> Traversal
+fn play(kind: u8, mark: Mark, n: usize, links: Links) -> Traversal
     requires { n ≤ 9 }
 {
     let r = seed(kind, mark, n, links);
@@ -166,60 +157,48 @@ fn play(kind: u8, mark: Mark, n: usize, links: u8) -> Traversal
 
 // A walk over all of four points; three are taken back, and one is placed.
 fn play_back(kind: u8, mark: Mark) {
-    let t = play(kind, mark, 4, plans::HALF);
+    let t = play(kind, mark, 4, Links::Half);
     let t = step_back(t);
     let t = step_back(t);
     let t = step_back(t);
-    step(t, seed(kind, mark, 3, plans::HALF));
+    step(t, seed(kind, mark, 3, Links::Half));
 }
 
 // A walk over four of nine points, and then six.
 fn play_on_nine(kind: u8, mark: Mark) {
-    let r = seed(kind, mark, 9, plans::HALF);
-    let t = start(kind, mark, 9, plans::small(mark, 9, plans::HALF, r));
+    let r = seed(kind, mark, 9, Links::Half);
+    let t = start(kind, mark, 9, plans::small(mark, 9, Links::Half, r));
     let t = compare_all(grown_by_four(t, r));
     compare_all(grown(grown(t, r), next(r)));
 }
 
 // A walk over 16 of 64 points, and then 32.
 fn play_on_largest(kind: u8, mark: Mark) {
-    let r = seed(kind, mark, 64, plans::FEW);
+    let r = seed(kind, mark, 64, Links::Few);
     let rows = plans::largest(mark, r);
     let opened = Traversal::open(Kind(kind), mark, &rows, 0);
     let t = opened.traversal;
-    let t = compare_each(grown_by_sixteen(t, r), SPREAD, 10);
-    compare_each(grown_by_sixteen(t, next(r)), SPREAD, 10);
+    let points = SPREAD;
+    let t = compare_each(grown_by_sixteen(t, r), &points);
+    compare_each(grown_by_sixteen(t, next(r)), &points);
 }
 
-// An open walk that nobody opened, with `last_row` and `last` for the last of its 64 rows and its 64 places.
-fn made(
-    kind: u8,
-    mark: Mark,
-    n: usize,
-    k: usize,
-    plan: u64,
-    last_row: u64,
-    walk: u64,
-    last: u8,
-) -> Traversal {
-    let mut rows = notation::rows_of(plan);
-    rows[63] = last_row;
-    let mut ordering = notation::places_of(walk);
-    ordering[63] = last;
+// An open walk that nobody opened.
+fn made(kind: u8, mark: Mark, n: usize, k: usize, plan: u64, walk: u64) -> Traversal {
     Traversal {
         kind: Kind(kind),
         mark,
         n,
-        rows,
+        rows: notation::rows_of(plan),
         barred: 0,
         k,
-        ordering,
+        ordering: notation::places_of(walk),
     }
 }
 
 // A walk over three of four points.
 fn third(kind: u8, mark: Mark, plan: u64, walk: u64) {
-    compare_all(made(kind, mark, 4, 3, plan, 0, walk, 0));
+    compare_all(made(kind, mark, 4, 3, plan, walk));
 }
 
 // Walks that fail BFS and LexBFS; DFS and LexDFS; all kinds but Generic and BFS; all kinds but Generic and DFS.
@@ -230,42 +209,57 @@ fn failing(kind: u8, mark: Mark) {
     third(kind, mark, PENDANT_ON_1, 0x012_00000);
 }
 
-// The points of each sort compared on such an open walk.
-fn sorts(kind: u8, mark: Mark, n: usize, k: usize, plan: u64, last_row: u64, walk: u64, last: u8) {
-    compare_each(
-        made(kind, mark, n, k, plan, last_row, walk, last),
-        OF_EACH_SORT,
-        3,
-    );
+// The points of each sort compared.
+fn compare_sorts(traversal: Traversal) {
+    let points = OF_EACH_SORT;
+    compare_each(traversal, &points);
+}
+
+fn sorts(kind: u8, mark: Mark, n: usize, k: usize, plan: u64, walk: u64) {
+    compare_sorts(made(kind, mark, n, k, plan, walk));
+}
+
+// With 1 for the last of the 64 rows.
+fn damaged_row(kind: u8, mark: Mark) {
+    let mut row = made(kind, mark, 4, 1, RING, 0x10_000000);
+    row.rows[63] = 1;
+    compare_sorts(row);
+}
+
+// With 3 for the last of the 64 places.
+fn damaged_place(kind: u8, mark: Mark) {
+    let mut place = made(kind, mark, 4, 1, RING, 0x10_000000);
+    place.ordering[63] = 3;
+    compare_sorts(place);
 }
 
 // Well formed at first, then with one part damaged at a time. In the last one 3 leads to 0 and 0 not to 3: damaged if two-way.
 fn damaged(kind: u8, mark: Mark) {
-    sorts(kind, mark, 4, 1, RING, 0, 0x10_000000, 0);
-    sorts(kind, mark, 65, 1, RING, 0, 0x10_000000, 0);
-    sorts(kind, mark, 18446744073709551615, 1, RING, 0, 0x10_000000, 0);
-    sorts(kind, mark, 0, 0, RING, 0, 0x00_000000, 0);
-    sorts(kind, mark, 4, 5, RING, 0, 0x10_000000, 0);
-    sorts(kind, mark, 4, 65, RING, 0, 0x10_000000, 0);
-    sorts(kind, mark, 4, 18446744073709551615, RING, 0, 0x10_000000, 0);
-    sorts(kind, mark, 4, 1, 0x1a050a05_00000000, 0, 0x10_000000, 0);
-    sorts(kind, mark, 4, 1, 0x0b050a05_00000000, 0, 0x10_000000, 0);
-    sorts(kind, mark, 4, 1, RING, 1, 0x10_000000, 0);
-    sorts(kind, mark, 4, 1, RING, 0, 0x70_000000, 0);
-    sorts(kind, mark, 4, 2, RING, 0, 0x11_000000, 0);
-    sorts(kind, mark, 4, 2, RING, 0, 0x13_000000, 0);
-    sorts(kind, mark, 4, 1, RING, 0, 0x13_000000, 0);
-    sorts(kind, mark, 4, 1, RING, 0, 0x10_000000, 3);
-    sorts(kind, mark, 4, 1, 0x02050a05_00000000, 0, 0x10_000000, 0);
+    sorts(kind, mark, 4, 1, RING, 0x10_000000);
+    sorts(kind, mark, 65, 1, RING, 0x10_000000);
+    sorts(kind, mark, 18446744073709551615, 1, RING, 0x10_000000);
+    sorts(kind, mark, 0, 0, RING, 0x00_000000);
+    sorts(kind, mark, 4, 5, RING, 0x10_000000);
+    sorts(kind, mark, 4, 65, RING, 0x10_000000);
+    sorts(kind, mark, 4, 18446744073709551615, RING, 0x10_000000);
+    sorts(kind, mark, 4, 1, 0x1a050a05_00000000, 0x10_000000);
+    sorts(kind, mark, 4, 1, 0x0b050a05_00000000, 0x10_000000);
+    damaged_row(kind, mark);
+    sorts(kind, mark, 4, 1, RING, 0x70_000000);
+    sorts(kind, mark, 4, 2, RING, 0x11_000000);
+    sorts(kind, mark, 4, 2, RING, 0x13_000000);
+    sorts(kind, mark, 4, 1, RING, 0x13_000000);
+    damaged_place(kind, mark);
+    sorts(kind, mark, 4, 1, 0x02050a05_00000000, 0x10_000000);
 }
 
 fn marked(kind: u8, mark: Mark) {
-    play(kind, mark, 0, plans::HALF);
-    play(kind, mark, 1, plans::HALF);
-    play(kind, mark, 2, plans::HALF);
-    play(kind, mark, 4, plans::MANY);
-    play(kind, mark, 5, plans::PIECES);
-    play(kind, mark, 6, plans::FEW);
+    play(kind, mark, 0, Links::Half);
+    play(kind, mark, 1, Links::Half);
+    play(kind, mark, 2, Links::Half);
+    play(kind, mark, 4, Links::Many);
+    play(kind, mark, 5, Links::Pieces);
+    play(kind, mark, 6, Links::Few);
     play_back(kind, mark);
     play_on_nine(kind, mark);
     failing(kind, mark);
@@ -278,13 +272,9 @@ fn played(kind: u8) {
 }
 
 fn main() {
-    played(0);
-    played(1);
-    played(2);
-    played(3);
-    played(4);
-    played(5);
-    played(6);
+    for kind in 0u8..7 {
+        played(kind);
+    }
     damaged(7, Mark::TwoWay);
     damaged(255, Mark::OneWay);
     play_on_largest(0, Mark::TwoWay);

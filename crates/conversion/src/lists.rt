@@ -21,6 +21,7 @@ fn write_numbers(row: u64, list: &mut [u8], begin: usize) -> usize
     ensures end { result ≡ begin + length (numbers_below 64 (member row)) }
     ensures list { list.new ≡ take begin list.old ++ (numbers_below 64 (member row) ++ drop result list.old) }
 {
+    // the numbers are taken from the word one by one, and the position behind them is counted, since it is answered
     let mut end = begin;
     let mut rest = row;
     while rest != 0 {

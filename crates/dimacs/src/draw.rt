@@ -10,6 +10,7 @@ use edge_lines::{Cursor, Line, next_line};
 // most 64.
 #[derive(Clone, Copy)]
 pub struct Drawing {
+    // The three flags are fields beside the values, as `begun`, `broken`, `linked` and `drawing_tests` of specs/Drawing.antt have them.
     pub headed: bool,
     pub sound: bool,
     pub n: u64,
@@ -91,6 +92,7 @@ pub fn read_lines(file: &[u8]) -> Drawing
         rows: [0u64; 64],
     };
     let mut at = 0usize;
+    // The next line begins where `next_line` answers, so no range and no iterator over the bytes gives `at`.
     while at < file.len() {
         if !drawing.sound {
             return drawing;

@@ -6,7 +6,7 @@ ghost use Rattle.drawing.specs.Sheet.{sheet_in, sheet_length};
 
 use checks::number::number;
 use dimacs::import::import;
-use fields::write::line_of_one;
+use fields::write::line_of;
 use plan_text::{Format, write_plan};
 
 // Writes the sheet of the plan that a DIMACS edge file gives, with an empty walk, to the front of `output`; for a file that is refused, a line with the number of
@@ -22,6 +22,6 @@ pub fn sheet_of(file: &[u8], output: &mut [u8]) -> usize
     let mut rows = [0u64; 64];
     match import(file, &mut rows) {
         Ok(n) => write_plan(Format::Sheet, &rows[..n], output),
-        Err(refusal) => line_of_one(output, 0, number(refusal) as usize),
+        Err(refusal) => line_of(output, 0, &[number(refusal) as usize]),
     }
 }

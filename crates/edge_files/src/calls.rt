@@ -4,6 +4,7 @@ ghost use Rattle.std.specs.Prelude.{◌≤◌};
 use crate::answers;
 use notation::{put, show, show_bar, show_list, show_plan};
 use searches::Mark;
+use std::array;
 
 fn play_import(file: &[u8], rows: &mut [u64]) {
     put(b'i');
@@ -21,7 +22,7 @@ fn play_import(file: &[u8], rows: &mut [u64]) {
 fn play_export(mark: Mark, rows: &[u64], output: &mut [u8]) {
     put(b'x');
     show_bar();
-    show(notation::number(mark));
+    show(mark as u64);
     show_bar();
     show_plan(rows);
     show_bar();
@@ -35,20 +36,12 @@ fn play_export(mark: Mark, rows: &[u64], output: &mut [u8]) {
 
 // Rows before a call: the one at place p is 1000 + p.
 fn fresh_rows() -> [u64; 68] {
-    let mut list = [0u64; 68];
-    for p in 0..68 {
-        list[p] = 1000 + (p as u64);
-    }
-    list
+    array::from_fn(|p| 1000 + p as u64)
 }
 
 // Bytes before a call: the letters a to z, again and again.
 fn fresh_bytes() -> [u8; 15650] {
-    let mut list = [0u8; 15650];
-    for p in 0..15650 {
-        list[p] = b'a' + (p % 26) as u8;
-    }
-    list
+    array::from_fn(|p| b'a' + (p % 26) as u8)
 }
 
 // Import of a file to so many rows.

@@ -18,40 +18,34 @@ fn import_written(rows: &[u64], room: usize, text: &mut [u8])
     }
 }
 
-// From the file of the first n rows to so many rows.
-pub fn import(rows: [u64; 64], n: usize, room: usize)
-    requires { (n ≤ 64) × (room ≤ 68) }
+// From the file of a plan to so many rows.
+pub fn import(rows: &[u64], room: usize)
+    requires { room ≤ 68 }
 {
     let mut text = [0u8; 15650];
-    import_written(&rows[..n], room, &mut text);
+    import_written(rows, room, &mut text);
 }
 
-// How many bytes the file of the first n rows has.
-fn length(rows: [u64; 64], n: usize) -> usize
-    requires { n ≤ 64 }
-{
+// How many bytes the file of a plan has.
+fn length(rows: &[u64]) -> usize {
     let mut text = [0u8; 15650];
-    write(&rows[..n], &mut text)
+    write(rows, &mut text)
 }
 
-// The first n rows, to so many bytes more than are needed.
-pub fn export(mark: Mark, rows: [u64; 64], n: usize, more: usize)
-    requires { (n ≤ 64) × (more ≤ 50) }
+// A plan, to so many bytes more than are needed.
+pub fn export(mark: Mark, rows: &[u64], more: usize)
+    requires { more ≤ 50 }
 {
-    let needed = length(rows, n);
+    let needed = length(rows);
     if needed < 15600 {
-        calls::export(mark, &rows[..n], needed + more);
+        calls::export(mark, rows, needed + more);
     }
 }
 
-// The first n rows, to a byte fewer than are needed.
-pub fn export_short(rows: [u64; 64], n: usize)
-    requires { n ≤ 64 }
-{
-    let needed = length(rows, n);
-    if needed < 15600 {
-        if 0 < needed {
-            calls::export(Mark::TwoWay, &rows[..n], needed - 1);
-        }
+// A plan, to a byte fewer than are needed.
+pub fn export_short(rows: &[u64]) {
+    let needed = length(rows);
+    if 0 < needed && needed < 15600 {
+        calls::export(Mark::TwoWay, rows, needed - 1);
     }
 }

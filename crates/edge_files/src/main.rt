@@ -16,44 +16,48 @@ mod exported;
 mod refused;
 mod written;
 
-ghost use Rattle.std.specs.Prelude.{◌≤◌};
+ghost use Rattle.std.specs.Prelude.{◌≤◌, length};
 
-use plans::next;
+use plans::{Links, next};
 use searches::Mark;
+use std::array;
 
 // A random number for each n and number of links.
-fn seed(n: usize, links: u8) -> u64 {
-    next(next(next((n as u64) ^ (u64::from(links) << 8) ^ 0x9e3779b97f4a7c15)))
+fn seed(n: usize, links: Links) -> u64 {
+    next(next(next((n as u64) ^ ((links as u64) << 8) ^ 0x9e3779b97f4a7c15)))
 }
 
 // Export with output lists of every length that matters, and import of what it wrote.
-fn play(rows: [u64; 64], n: usize)
-    requires { n ≤ 64 }
+fn play(rows: &[u64])
+    requires { length rows.now ≤ 64 }
 {
-    exported::export(Mark::TwoWay, rows, n, 0);
-    exported::export(Mark::TwoWay, rows, n, 3);
-    exported::export_short(rows, n);
-    exported::import(rows, n, n);
-    exported::import(rows, n, n + 2);
+    let n = rows.len();
+    exported::export(Mark::TwoWay, rows, 0);
+    exported::export(Mark::TwoWay, rows, 3);
+    exported::export_short(rows);
+    exported::import(rows, n);
+    exported::import(rows, n + 2);
     if 0 < n {
-        exported::import(rows, n, n - 1);
+        exported::import(rows, n - 1);
     }
 }
 
 // Random plans of n points, two-way and one-way.
-fn play_random(n: usize, links: u8)
+fn play_random(n: usize, links: Links)
     requires { n ≤ 64 }
 {
     let r = seed(n, links);
-    play(plans::small(Mark::TwoWay, n, links, r), n);
-    exported::export(Mark::OneWay, plans::small(Mark::OneWay, n, links, r), n, 50);
-    exported::export(Mark::OneWay, plans::small(Mark::TwoWay, n, links, r), n, 0);
+    let two_way = plans::small(Mark::TwoWay, n, links, r);
+    let one_way = plans::small(Mark::OneWay, n, links, r);
+    play(&two_way[..n]);
+    exported::export(Mark::OneWay, &one_way[..n], 50);
+    exported::export(Mark::OneWay, &two_way[..n], 0);
 }
 
 fn play_each_size() {
     for n in 0..10 {
-        play_random(n, plans::HALF);
-        play_random(n, plans::MANY);
+        play_random(n, Links::Half);
+        play_random(n, Links::Many);
     }
 }
 
@@ -62,8 +66,9 @@ fn play_numbered(n: usize, count: u64)
     requires { n ≤ 4 }
 {
     for number in 0..count {
-        exported::export(Mark::TwoWay, plans::numbered(n, number), n, 0);
-        exported::import(plans::numbered(n, number), n, n);
+        let rows = plans::numbered(n, number);
+        exported::export(Mark::TwoWay, &rows[..n], 0);
+        exported::import(&rows[..n], n);
     }
 }
 
@@ -77,17 +82,14 @@ fn play_small() {
 
 // 64 points with every link: the longest file.
 fn complete() -> [u64; 64] {
-    let mut rows = [0u64; 64];
-    for u in 0..64 {
-        rows[u] = bitset::remove(u64::MAX, u);
-    }
-    rows
+    array::from_fn(|u| bitset::remove(u64::MAX, u))
 }
 
 fn play_complete() {
-    exported::export(Mark::TwoWay, complete(), 64, 0);
-    exported::export_short(complete(), 64);
-    exported::import(complete(), 64, 64);
+    let rows = complete();
+    exported::export(Mark::TwoWay, &rows, 0);
+    exported::export_short(&rows);
+    exported::import(&rows, 64);
 }
 
 fn main() {
@@ -95,8 +97,8 @@ fn main() {
     written::play_all();
     play_small();
     play_each_size();
-    play(notation::in_a_row(), 64);
-    play(plans::largest(Mark::TwoWay, seed(64, plans::FEW)), 64);
+    play(&notation::in_a_row());
+    play(&plans::largest(Mark::TwoWay, seed(64, Links::Few)));
     play_complete();
     refused::play_all(Mark::TwoWay);
     refused::play_all(Mark::OneWay);

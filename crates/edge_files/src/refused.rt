@@ -1,20 +1,12 @@
 // Refused exports. Plans are written as digits (`rows_of` of `notation`).
-ghost use Rattle.std.specs.Prelude.{◌≤◌};
-
 use crate::calls;
 use searches::Mark;
 
-// The first n rows, to so many bytes.
-fn try_first(mark: Mark, rows: [u64; 64], n: usize, room: usize)
-    requires { (n ≤ 64) × (room ≤ 15650) }
-{
-    calls::export(mark, &rows[..n], room);
-}
-
 // Four points, with an output list that is too short, and with one that is not.
 fn try_plan(mark: Mark, plan: u64) {
-    try_first(mark, notation::rows_of(plan), 4, 0);
-    try_first(mark, notation::rows_of(plan), 4, 60);
+    let rows = notation::rows_of(plan);
+    calls::export(mark, &rows[..4], 0);
+    calls::export(mark, &rows[..4], 60);
 }
 
 // Each plan has everything wrong that is tried after what it is refused for. Three are the tree 0-1, 0-2, 1-3 with another first row: with 0 linked to itself,

@@ -49,6 +49,7 @@ pub fn read_number(line: &[u8], cursor: Cursor) -> Number
     let start = cursor.at;
     let mut end = start;
     let mut value = 0u64;
+    // `end` is a position and is answered, and the cursor may stand behind the line, where no slice begins: an iterator would count it again.
     while digit_at(line, end) {
         value = append(value, byte_at(line, end));
         end = end + 1;

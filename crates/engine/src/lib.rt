@@ -60,7 +60,7 @@ pub fn verdict<G: Graph>(kind: Kind, graph: G, barred: u64, ordering: &[u8]) -> 
     let j = replayed.count;
     let free = replayed.stage.free;
     if j < k {
-        return Judgement::Fails(first_violation(graph, ordering, k, &labels, free, Position(j)));
+        return Judgement::Fails(first_violation(graph, ordering, &labels, free, Position(j)));
     }
     Judgement::Passes
 }
@@ -69,6 +69,7 @@ pub fn verdict<G: Graph>(kind: Kind, graph: G, barred: u64, ordering: &[u8]) -> 
 // one that stands last in `tie_break` is written, until all vertices that are not barred are placed. Refused (1 to 5, 23, 6, 10, 7, 8, 9, 24, 12; 5 for two-way
 // graphs only), `output` stays as it was; done, only the positions from `k` up to the number of vertices that are not barred are written. `rows` and
 // `tie_break` are not altered.
+// README names the call with these seven, which are those of `carry_on_barring`; `k` says how much of `output` is the start.
 pub fn carry_on(
     kind: Kind,
     mark: Mark,
@@ -101,6 +102,7 @@ pub fn carry_on(
 }
 
 // Carries on a start of distinct vertices that are not barred, unless it does not pass.
+// `k` stands beside `output`, since what is behind the first `k` entries is written.
 fn extend<G: Graph>(
     kind: Kind,
     graph: G,

@@ -4,6 +4,7 @@ ghost use Rattle.searches.specs.Ordering.{at};
 ghost use Rattle.fields.specs.Field.{ones, lead, digit_value, digits_at, field_at};
 
 // The byte at `i`; 0 behind the end.
+// 0 and no Option, as `at` of `searches` has it, by which `field_at` and all forms of lines are said; no form has a byte 0.
 pub fn byte_at(bytes: &[u8], i: usize) -> u8
     ensures { result ≡ at bytes.now i }
 {
@@ -11,6 +12,7 @@ pub fn byte_at(bytes: &[u8], i: usize) -> u8
 }
 
 // The digit that a byte is; 0 where it is none.
+// 0 and no Option, as `digit_value` has it: `field` compares the columns, so what is no digit is refused there.
 fn digit(byte: u8) -> usize
     ensures { result ≡ digit_value byte }
 {

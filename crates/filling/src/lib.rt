@@ -32,6 +32,7 @@ pub fn fill<G: Graph>(
     choice::rank(tie_break, &mut ranks);
     let mut moment = stage;
     let count = bitset::size(stage.free);
+    // the number gives the position, too, which an iterator over `tail` would have to count again
     for i in 0..count {
         let v = choice::choose(
             labels,

@@ -20,6 +20,7 @@ pub fn code_of(judgement: Result<Judgement<Vertex>, Refusal>) -> u32
 }
 
 // 0 where nothing was refused, else the refusal's number.
+// C gets a number, as `number_of` of specs/Code.antt says. Rust allows no `From` between two types of other crates.
 pub fn number_of(outcome: Result<(), Refusal>) -> u32
     ensures { result ≡ number_of (refusal_of outcome) }
 {

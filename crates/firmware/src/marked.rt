@@ -31,6 +31,7 @@ fn judge_plan(
 }
 
 // Carries on the first `k` vertices of `output` on a plan of this mark without the barred points. `plan` and `preference` are not altered.
+// The parameters are those of the C entry `vezhanip_carry_on`, and the mark that its name gives; the same holds for `carry_on_plan`.
 pub fn carry_on(
     kind: u8,
     mark: Mark,

@@ -18,7 +18,7 @@ fn main() {
     io::write_all(STDOUT_FILENO, &output[..length]);
     if line != 0 {
         let mut note = [0u8; 5];
-        let end = fields::write::line_of_one(&mut note, 0, line);
+        let end = fields::write::line_of(&mut note, 0, &[line]);
         io::write_all(STDERR_FILENO, &note[..end]);
     }
 }

@@ -7,7 +7,7 @@ ghost use Rattle.searches.specs.Answer.{verdict_of};
 ghost use Rattle.sheet.specs.Sheet.{stopped_in};
 ghost use Rattle.judgement.specs.Judged.{judged_line, judged_lines, judgement, judgement_in, judgement_length, ReadInto};
 
-use fields::write;
+use fields::write::line_of;
 use searches::{Judgement, Kind, Mark, Refusal, Vertex};
 use sheet::read::read;
 
@@ -23,17 +23,19 @@ fn judged_line(
     ensures at { result ≡ at + length (judged_line kind (verdict_of judgement)) }
 {
     match judgement {
-        Ok(Judgement::Passes) => write::line_of_two(output, at, kind as usize, 1),
-        Ok(Judgement::Fails(v)) => write::line_of_five(
+        Ok(Judgement::Passes) => line_of(output, at, &[kind as usize, 1]),
+        Ok(Judgement::Fails(v)) => line_of(
             output,
             at,
-            kind as usize,
-            0,
-            v.a.0 as usize,
-            v.b.0 as usize,
-            v.c.0 as usize,
+            &[
+                kind as usize,
+                0,
+                v.a.0 as usize,
+                v.b.0 as usize,
+                v.c.0 as usize,
+            ],
         ),
-        Err(refusal) => write::line_of_one(output, at, checks::number::number(refusal) as usize),
+        Err(refusal) => line_of(output, at, &[checks::number::number(refusal) as usize]),
     }
 }
 
@@ -56,6 +58,7 @@ fn judged_lines(output: &mut [u8], rows: &[u64], ordering: &[u8]) -> usize
 #[derive(Clone, Copy)]
 pub struct Judged {
     pub length: usize,
+    // A number and no Option: the clause `line` of `judge_input` gives `stopped_in` of `sheet`, which is 0 where no line is named.
     pub line: usize,
 }
 
@@ -75,7 +78,7 @@ fn write_judgement(sheet: &[u8], output: &mut [u8]) -> Judged
         }
         Err(unread) => {
             let number = checks::number::number(unread.refusal);
-            let length = write::line_of_one(output, 0, number as usize);
+            let length = line_of(output, 0, &[number as usize]);
             Judged {
                 length,
                 line: unread.line,
@@ -99,6 +102,7 @@ pub fn judge(sheet: &[u8], output: &mut [u8]) -> usize
 }
 
 // The judgement of the first `count` bytes; of all where there are no more.
+// `count` stands beside the list, since `judge_input` asks nothing of it: it may be more than there are bytes, where no slice ends.
 fn judge_first(bytes: &[u8], count: usize, output: &mut [u8]) -> Judged
     requires { 147 ≤ length output.old }
     ensures output { output.new ≡ sets output.old 0 (judgement (take count bytes.now)) }
@@ -114,6 +118,7 @@ fn judge_first(bytes: &[u8], count: usize, output: &mut [u8]) -> Judged
 
 // Judges an input of any length that was read into `input`, as much as there is room for: no valid sheet is longer. The first `count` bytes of
 // `input` are what was read. The judgement is that of the whole input, and is written to the front of `output`.
+// The signature stays: `ReadInto` and the three clauses speak of `count`.
 pub fn judge_input(input: &[u8; 18478], count: usize, output: &mut [u8; 147]) -> Judged
     ensures output { (b : List ℕ) → ReadInto input.now count b → output.new ≡ sets output.old 0 (judgement b) }
     ensures length { (b : List ℕ) → ReadInto input.now count b → result.length ≡ length (judgement b) }

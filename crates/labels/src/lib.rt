@@ -12,12 +12,14 @@ ghost use Rattle.labels.specs.Words.{Weighed, profile_of, profile_at, compared_i
 ghost use Rattle.labels.specs.Weights.{Consistent};
 
 use crate::profile::{Profile, profile_of};
+use crate::weight::Grown;
 use lookup::graph::Graph;
 use searches::{Comparison, Kind, Position, Vertex};
 
 // The labels of the vertices in a search of `kind`, and what is kept beside them. Bit p of a vertex's word is set when the vertex at position p leads to
 // it. The running values are each vertex's smallest position, 64 where it has none, and one more than its largest position, 0 where it has none. The
 // weight of its label is what it is compared by in every search but MNS.
+// The running values are bytes with a number for none, not Options: these would take two bytes each, and `smallest_to` and `largest_to` have the numbers.
 #[derive(Clone, Copy)]
 pub struct Labels {
     pub kind: Kind,
@@ -115,17 +117,13 @@ impl Labels {
             let number = v as u8;
             let first = smallest_with(latest, self.smallest[v]);
             let label = bitset::insert(self.words[v], p);
-            let weight = weight::weigh(
-                kind,
-                graph,
-                placed,
-                Vertex(number),
-                position,
+            let grown = Grown {
                 label,
-                first,
-                past,
-                self.weights[v],
-            );
+                smallest: first,
+                largest: past,
+                weight: self.weights[v],
+            };
+            let weight = weight::weigh(kind, graph, placed, Vertex(number), position, grown);
             self.words[v] = label;
             self.smallest[v] = first;
             self.largest[v] = past;

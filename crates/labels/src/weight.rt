@@ -6,40 +6,46 @@ ghost use Rattle.labels.specs.Weights.{weight_of, Weighable};
 use lookup::graph::Graph;
 use searches::{Kind, Position, Vertex};
 
-// The weight of the label of `vertex`, into which `position` was just put. BFS and DFS take it from the running values `smallest` and `largest`, MCS
-// counts in the columns, and LexBFS puts the position into the weight that there was, counted from the other end: the earlier one weighs more.
+// What is kept of a vertex into whose label a position was just put: the label, the running values, and the weight that the label had before.
+#[derive(Clone, Copy)]
+pub struct Grown {
+    pub label: u64,
+    pub smallest: u8,
+    pub largest: u8,
+    pub weight: u64,
+}
+
+// The weight of the label of `vertex`, into which `position` was just put. BFS and DFS take it from the running values, in MCS the graph counts, and
+// LexBFS puts the position into the weight that there was, counted from the other end: the earlier one weighs more.
 pub fn weigh<G: Graph>(
     kind: Kind,
     graph: G,
     placed: u64,
     vertex: Vertex,
     position: Position,
-    label: u64,
-    smallest: u8,
-    largest: u8,
-    weight: u64,
+    grown: Grown,
 ) -> u64
-    requires { Weighable (search_of kind.0) (G.columns graph) placed vertex.0 position.0 label smallest largest weight }
-    ensures { result ≡ weight_of (search_of kind.0) label }
+    requires { Weighable (search_of kind.0) (G.columns graph) placed vertex.0 position.0 grown.label grown.smallest grown.largest grown.weight }
+    ensures { result ≡ weight_of (search_of kind.0) grown.label }
 {
     let p = position.0;
     if kind == Kind::BFS {
-        return 64 - smallest as u64;
+        return 64 - grown.smallest as u64;
     }
     if kind == Kind::DFS {
-        return largest as u64;
+        return grown.largest as u64;
     }
     if kind == Kind::LEX_BFS {
-        return bitset::insert(weight, 63 - p);
+        return bitset::insert(grown.weight, 63 - p);
     }
     if kind == Kind::LEX_DFS {
-        return label;
+        return grown.label;
     }
     if kind == Kind::MNS {
-        return label;
+        return grown.label;
     }
     if kind == Kind::MCS {
-        return graph.count(placed, vertex, label) as u64;
+        return graph.count(placed, vertex, grown.label) as u64;
     }
     1
 }

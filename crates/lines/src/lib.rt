@@ -15,7 +15,9 @@ pub struct Content {
     pub k: usize,
     pub from: usize,
     pub to: usize,
+    // A field beside the values, as `place_added` of specs/Line.antt and `parsed_answer` of `sheet` have it.
     pub outside: bool,
+    // There is no heap, so the lists have a fixed length, of which n and k entries are used.
     pub rows: [u64; 64],
     pub ordering: [u8; 64],
 }
@@ -25,6 +27,7 @@ pub struct Content {
 #[derive(Clone, Copy)]
 pub struct Parsed {
     pub good: usize,
+    // A field beside the values, as `halted`, `end_read` and `Sound` of specs/Line.antt have it: what was parsed before a malformed line stays known.
     pub sound: bool,
     pub width: usize,
     pub rest: usize,

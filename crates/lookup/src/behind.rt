@@ -1,4 +1,5 @@
-// Whether what is behind the used rows of a graph, or the used entries of an ordering, is 0.
+// Whether what is behind the used rows of a graph, or the used entries of an ordering, is 0. The number of those that are used stands beside the whole list,
+// since the others are asked about.
 ghost use Rattle.std.specs.Prelude.{◌≡◌, ◌≤◌, length};
 ghost use Rattle.lookup.specs.Unused.{used_from};
 

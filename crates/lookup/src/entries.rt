@@ -1,4 +1,5 @@
-// Tests on the first entries of a list of vertices.
+// Tests on the first entries of a list of vertices. How many these are stands beside the list, as in the definitions that the tests answer (`vertex_outside`,
+// `barred_named`, `repeated`): carry-on's start is the front of a longer list.
 ghost use Rattle.std.specs.Prelude.{◌≡◌, ℕ, ◌≤◌, ◌<◌, length};
 ghost use Rattle.searches.specs.Ordering.{at};
 ghost use Rattle.searches.specs.Answer.{vertex_outside, barred_named};

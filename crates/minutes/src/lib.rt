@@ -15,6 +15,7 @@ pub fn minutes_of(rows: &[u64], ordering: &[u8], minutes: &[u16]) -> u64
     ensures { result ≡ minutes_of (arcs rows.now) ordering.now (length ordering.now) minutes.now }
 {
     let mut total = 0u64;
+    // the number is a position, of which a jump is asked and which only `vertex_at` turns into the vertex there
     for p in 0..ordering.len() {
         let vertex = vertex_at(ordering, Position(p));
         let v = vertex.0 as usize;

@@ -4,6 +4,7 @@ ghost use Rattle.std.specs.Prelude.{◌≤◌};
 use crate::lines;
 use notation::{put, show, show_bar, show_list, show_plan};
 use searches::{Kind, Mark};
+use std::array;
 
 fn play_to_lists(mark: Mark, rows: &[u64], offsets: &mut [u16], neighbours: &mut [u8]) {
     lines::show_call(b'l', mark);
@@ -36,31 +37,17 @@ fn play_to_rows(mark: Mark, offsets: &[u16], neighbours: &[u8], rows: &mut [u64]
 
 // Offsets before a call: the one at place p is 50000 + p.
 fn fresh_offsets() -> [u16; 68] {
-    let mut list = [0u16; 68];
-    for p in 0u16..68 {
-        list[p as usize] = 50000 + p;
-    }
-    list
+    array::from_fn(|p| 50000 + p as u16)
 }
 
 // Neighbours before a call: the one at place p is 100 + p modulo 100.
 fn fresh_neighbours() -> [u8; 4100] {
-    let mut list = [0u8; 4100];
-    let mut byte = 100u8;
-    for p in 0..4100 {
-        list[p] = byte;
-        byte = if byte < 199 { byte + 1 } else { 100 };
-    }
-    list
+    array::from_fn(|p| 100 + (p % 100) as u8)
 }
 
 // Rows before a call: the one at place p is 1000 + p.
 fn fresh_rows() -> [u64; 68] {
-    let mut list = [0u64; 68];
-    for p in 0..68 {
-        list[p] = 1000 + (p as u64);
-    }
-    list
+    array::from_fn(|p| 1000 + p as u64)
 }
 
 // From rows to lists of so many offsets and so many neighbours.

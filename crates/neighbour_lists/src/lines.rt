@@ -5,18 +5,13 @@ use searches::{Judgement, Mark, Refusal, Vertex, Violation};
 // How a line begins: the letter of the call, and the mark.
 pub fn show_call(letter: u8, mark: Mark) {
     put(letter);
-    show(notation::number(mark));
-}
-
-// An offset as a number that can be printed.
-fn wide_offset(offset: u16) -> u64 {
-    offset as u64
+    show(mark as u64);
 }
 
 // Prints offsets.
 pub fn show_offsets(offsets: &[u16]) {
     for offset in offsets {
-        show(wide_offset(*offset));
+        show(u64::from(*offset));
     }
 }
 

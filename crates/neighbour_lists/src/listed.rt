@@ -1,19 +1,16 @@
 // Calls on a plan and on its lists. The lists are made by the conversion, without a line.
-ghost use Rattle.std.specs.Prelude.{◌≤◌};
+ghost use Rattle.std.specs.Prelude.{◌≤◌, length};
 
 use crate::calls;
 use searches::Mark;
 
-fn as_count(offset: u16) -> usize {
-    offset as usize
-}
-
 // Writes the lists of a valid plan. Returns how many neighbours there are.
 fn write(mark: Mark, rows: &[u64], offsets: &mut [u16], neighbours: &mut [u8]) -> usize {
+    // not refused: the plan is valid, and there is room
     let _ = conversion::to_lists(mark, rows, offsets, neighbours);
     let n = rows.len();
     if n < offsets.len() {
-        as_count(offsets[n])
+        usize::from(offsets[n])
     } else {
         0
     }
@@ -34,20 +31,11 @@ fn judge_on(
     }
 }
 
-// A walk on the lists of the first n rows.
-pub fn judge(mark: Mark, rows: [u64; 64], n: usize, barred: u64, walk: &[u8])
-    requires { n ≤ 64 }
-{
+// A walk on the lists of a plan.
+pub fn judge(mark: Mark, rows: &[u64], barred: u64, walk: &[u8]) {
     let mut offsets = [0u16; 65];
     let mut neighbours = [0u8; 4032];
-    judge_on(
-        mark,
-        &rows[..n],
-        barred,
-        walk,
-        &mut offsets,
-        &mut neighbours,
-    );
+    judge_on(mark, rows, barred, walk, &mut offsets, &mut neighbours);
 }
 
 fn convert_back(mark: Mark, rows: &[u64], room: usize, offsets: &mut [u16], neighbours: &mut [u8])
@@ -60,43 +48,43 @@ fn convert_back(mark: Mark, rows: &[u64], room: usize, offsets: &mut [u16], neig
     }
 }
 
-// From the lists of the first n rows to so many rows.
-pub fn to_rows(mark: Mark, rows: [u64; 64], n: usize, room: usize)
-    requires { (n ≤ 64) × (room ≤ 68) }
+// From the lists of a plan to so many rows.
+pub fn to_rows(mark: Mark, rows: &[u64], room: usize)
+    requires { room ≤ 68 }
 {
     let mut offsets = [0u16; 65];
     let mut neighbours = [0u8; 4032];
-    convert_back(mark, &rows[..n], room, &mut offsets, &mut neighbours);
+    convert_back(mark, rows, room, &mut offsets, &mut neighbours);
 }
 
-// How many neighbours the lists of the first n rows have.
-fn count(mark: Mark, rows: [u64; 64], n: usize) -> usize
-    requires { n ≤ 64 }
-{
+// How many neighbours the lists of a plan have.
+fn count(mark: Mark, rows: &[u64]) -> usize {
     let mut offsets = [0u16; 65];
     let mut neighbours = [0u8; 4032];
-    write(mark, &rows[..n], &mut offsets, &mut neighbours)
+    write(mark, rows, &mut offsets, &mut neighbours)
 }
 
-// From the first n rows to lists with room for so many entries more than there will be.
-pub fn to_lists(mark: Mark, rows: [u64; 64], n: usize, more: usize)
-    requires { (n ≤ 64) × (more ≤ 3) }
+// From a plan to lists with room for so many entries more than there will be.
+pub fn to_lists(mark: Mark, rows: &[u64], more: usize)
+    requires { (length rows.now ≤ 64) × (more ≤ 3) }
 {
-    let needed = count(mark, rows, n);
+    let n = rows.len();
+    let needed = count(mark, rows);
     if needed < 4033 {
-        calls::to_lists(mark, &rows[..n], n + 1 + more, needed + more);
+        calls::to_lists(mark, rows, n + 1 + more, needed + more);
     }
 }
 
-// From the first n rows to lists with room for an offset too few, and to lists with room for a neighbour too few.
-pub fn to_short_lists(mark: Mark, rows: [u64; 64], n: usize)
-    requires { n ≤ 64 }
+// From a plan to lists with room for an offset too few, and to lists with room for a neighbour too few.
+pub fn to_short_lists(mark: Mark, rows: &[u64])
+    requires { length rows.now ≤ 64 }
 {
-    let needed = count(mark, rows, n);
+    let n = rows.len();
+    let needed = count(mark, rows);
     if needed < 4033 {
-        calls::to_lists(mark, &rows[..n], n, needed);
+        calls::to_lists(mark, rows, n, needed);
         if 0 < needed {
-            calls::to_lists(mark, &rows[..n], n + 1, needed - 1);
+            calls::to_lists(mark, rows, n + 1, needed - 1);
         }
     }
 }

@@ -16,14 +16,15 @@ mod refused;
 mod small;
 mod walks;
 
-ghost use Rattle.std.specs.Prelude.{◌≤◌};
+ghost use Rattle.std.specs.Prelude.{◌≤◌, length};
 
-use plans::next;
+use plans::{Links, next};
 use searches::Mark;
+use std::array;
 
 // A random number for each mark, n and number of links.
-fn seed(mark: Mark, n: usize, links: u8) -> u64 {
-    let digits = (n as u64) ^ (u64::from(links) << 8) ^ (notation::number(mark) << 24);
+fn seed(mark: Mark, n: usize, links: Links) -> u64 {
+    let digits = (n as u64) ^ ((links as u64) << 8) ^ ((mark as u64) << 24);
     next(next(next(digits ^ 0x9e3779b97f4a7c15)))
 }
 
@@ -33,53 +34,49 @@ fn any_kind(random: u64) -> u8 {
 }
 
 // Both conversions, with output lists that are long enough, longer and too short.
-fn convert(mark: Mark, rows: [u64; 64], n: usize)
-    requires { n ≤ 64 }
+fn convert(mark: Mark, rows: &[u64])
+    requires { length rows.now ≤ 64 }
 {
-    listed::to_lists(mark, rows, n, 0);
-    listed::to_lists(mark, rows, n, 3);
-    listed::to_short_lists(mark, rows, n);
-    listed::to_rows(mark, rows, n, n);
-    listed::to_rows(mark, rows, n, n + 2);
+    let n = rows.len();
+    listed::to_lists(mark, rows, 0);
+    listed::to_lists(mark, rows, 3);
+    listed::to_short_lists(mark, rows);
+    listed::to_rows(mark, rows, n);
+    listed::to_rows(mark, rows, n + 2);
     if 0 < n {
-        listed::to_rows(mark, rows, n, n - 1);
+        listed::to_rows(mark, rows, n - 1);
     }
 }
 
 // A walk that passes a kind, a random one, and two places of another.
-fn judge_some(mark: Mark, rows: [u64; 64], n: usize, barred: u64, random: u64)
-    requires { n ≤ 64 }
+fn judge_some(mark: Mark, rows: &[u64], barred: u64, random: u64)
+    requires { length rows.now ≤ 64 }
 {
     let r = next(random);
-    walks::judge_passing(any_kind(random), mark, rows, n, barred, random);
-    walks::judge_all(mark, rows, n, barred, r);
-    walks::judge_random(mark, rows, n, barred, next(r), 2);
+    walks::judge_passing(any_kind(random), mark, rows, barred, random);
+    walks::judge_all(mark, rows, barred, r);
+    walks::judge_random(mark, rows, barred, next(r), 2);
 }
 
-fn play(mark: Mark, n: usize, links: u8)
+fn play(mark: Mark, n: usize, links: Links)
     requires { n ≤ 64 }
 {
     let r = seed(mark, n, links);
     let rows = plans::small(mark, n, links, r);
-    convert(mark, rows, n);
-    judge_some(mark, rows, n, 0, r);
-    judge_some(
-        mark,
-        rows,
-        n,
-        bitset::full_below(n) & (r >> 9) & (r >> 40),
-        next(r),
-    );
+    let barred = bitset::full_below(n) & (r >> 9) & (r >> 40);
+    convert(mark, &rows[..n]);
+    judge_some(mark, &rows[..n], 0, r);
+    judge_some(mark, &rows[..n], barred, next(r));
 }
 
 // Plans of n points.
 fn play_each(n: usize)
     requires { n ≤ 64 }
 {
-    play(Mark::TwoWay, n, plans::HALF);
-    play(Mark::TwoWay, n, plans::MANY);
-    play(Mark::OneWay, n, plans::FEW);
-    play(Mark::OneWay, n, plans::HALF);
+    play(Mark::TwoWay, n, Links::Half);
+    play(Mark::TwoWay, n, Links::Many);
+    play(Mark::OneWay, n, Links::Few);
+    play(Mark::OneWay, n, Links::Half);
 }
 
 fn play_each_size() {
@@ -89,30 +86,34 @@ fn play_each_size() {
 }
 
 // Walks on a plan of 64 points, one for each kind that it passes.
-fn judge_each_kind(mark: Mark, rows: [u64; 64], random: u64) {
+fn judge_each_kind(mark: Mark, rows: &[u64], random: u64)
+    requires { length rows.now ≤ 64 }
+{
     for kind in 0u8..7 {
-        walks::judge_passing(kind, mark, rows, 64, 0, random);
+        walks::judge_passing(kind, mark, rows, 0, random);
     }
 }
 
 // The same with barred points; walks that pass LexBFS, LexDFS and MCS pass the other kinds, too.
-fn judge_barring(mark: Mark, rows: [u64; 64], barred: u64, random: u64) {
-    walks::judge_passing(3, mark, rows, 64, barred, random);
-    walks::judge_passing(4, mark, rows, 64, barred, random);
-    walks::judge_passing(6, mark, rows, 64, barred, random);
+fn judge_barring(mark: Mark, rows: &[u64], barred: u64, random: u64)
+    requires { length rows.now ≤ 64 }
+{
+    walks::judge_passing(3, mark, rows, barred, random);
+    walks::judge_passing(4, mark, rows, barred, random);
+    walks::judge_passing(6, mark, rows, barred, random);
 }
 
 // A random plan of 64 points.
 fn play_largest(mark: Mark) {
-    let r = seed(mark, 64, plans::FEW);
+    let r = seed(mark, 64, Links::Few);
     let rows = plans::largest(mark, r);
     let barred = (r >> 3) & (r << 7) & next(r);
-    listed::to_lists(mark, rows, 64, 0);
-    listed::to_rows(mark, rows, 64, 64);
-    judge_each_kind(mark, rows, r);
-    judge_barring(mark, rows, barred, r);
-    walks::judge_all(mark, rows, 64, 0, r);
-    walks::judge_all(mark, rows, 64, barred, r);
+    listed::to_lists(mark, &rows, 0);
+    listed::to_rows(mark, &rows, 64);
+    judge_each_kind(mark, &rows, r);
+    judge_barring(mark, &rows, barred, r);
+    walks::judge_all(mark, &rows, 0, r);
+    walks::judge_all(mark, &rows, barred, r);
 }
 
 // The first k of 64 points in a row.
@@ -120,40 +121,37 @@ fn judge_row(mark: Mark, barred: u64, k: usize)
     requires { k ≤ 64 }
 {
     let points = notation::all_points();
-    listed::judge(mark, notation::in_a_row(), 64, barred, &points[..k]);
+    listed::judge(mark, &notation::in_a_row(), barred, &points[..k]);
 }
 
 // 64 points in a row.
 fn play_row(mark: Mark) {
-    convert(mark, notation::in_a_row(), 64);
+    convert(mark, &notation::in_a_row());
     judge_row(mark, 0, 64);
     judge_row(mark, 0x8000, 15);
 }
 
 // 64 points with every link.
 fn complete() -> [u64; 64] {
-    let mut rows = [0u64; 64];
-    for u in 0..64 {
-        rows[u] = bitset::remove(u64::MAX, u);
-    }
-    rows
+    array::from_fn(|u| bitset::remove(u64::MAX, u))
 }
 
 fn play_complete() {
+    let rows = complete();
     let points = notation::all_points();
-    listed::to_lists(Mark::TwoWay, complete(), 64, 0);
-    listed::to_lists(Mark::OneWay, complete(), 64, 3);
-    listed::to_rows(Mark::OneWay, complete(), 64, 64);
-    listed::to_rows(Mark::TwoWay, complete(), 64, 65);
-    listed::judge(Mark::TwoWay, complete(), 64, 0, &points);
-    listed::judge(Mark::OneWay, complete(), 64, 0, &points);
+    listed::to_lists(Mark::TwoWay, &rows, 0);
+    listed::to_lists(Mark::OneWay, &rows, 3);
+    listed::to_rows(Mark::OneWay, &rows, 64);
+    listed::to_rows(Mark::TwoWay, &rows, 65);
+    listed::judge(Mark::TwoWay, &rows, 0, &points);
+    listed::judge(Mark::OneWay, &rows, 0, &points);
 }
 
 fn main() {
     small::play_all();
     play_each_size();
-    play(Mark::TwoWay, 8, plans::PIECES);
-    play(Mark::OneWay, 8, plans::PIECES);
+    play(Mark::TwoWay, 8, Links::Pieces);
+    play(Mark::OneWay, 8, Links::Pieces);
     play_largest(Mark::TwoWay);
     play_largest(Mark::OneWay);
     play_row(Mark::TwoWay);

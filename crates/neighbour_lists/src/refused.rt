@@ -3,6 +3,7 @@ ghost use Rattle.std.specs.Prelude.{◌≤◌};
 
 use crate::calls;
 use searches::Mark;
+use std::array;
 
 // Offsets and neighbours of the ring 0-1, 1-2, 2-3, 0-3.
 const STEPS: u64 = 0x02468000;
@@ -14,18 +15,10 @@ const VALVE_STEPS: u64 = 0x01357000;
 
 const VALVE: u64 = 0x10213020;
 
-fn as_offset(digit: u8) -> u16 {
-    digit as u16
-}
-
 // Eight offsets, a digit for each, from the first on.
 fn offsets_of(digits: u64) -> [u16; 8] {
     let places = notation::places_of(digits);
-    let mut offsets = [0u16; 8];
-    for u in 0..8 {
-        offsets[u] = as_offset(places[u]);
-    }
-    offsets
+    array::from_fn(|u| u16::from(places[u]))
 }
 
 // With everything wrong that is tried later, and with nothing else wrong.
@@ -124,36 +117,14 @@ fn most_offsets(mark: Mark) {
     try_on(mark, &offsets, &none);
 }
 
-// Lists as digits, and so many places of a walk.
-fn judge(
-    mark: Mark,
-    offsets: u64,
-    entries: usize,
-    neighbours: u64,
-    count: usize,
-    barred: u64,
-    walk: u64,
-    k: usize,
-)
-    requires { (entries ≤ 8) × (count ≤ 8) × (k ≤ 8) }
-{
-    let steps = offsets_of(offsets);
-    let list = notation::places_of(neighbours);
-    let places = notation::places_of(walk);
-    calls::judge(
-        mark,
-        &steps[..entries],
-        &list[..count],
-        barred,
-        &places[..k],
-    );
-}
-
 // The ring, with so many places of a walk.
 fn judge_ring(mark: Mark, barred: u64, walk: u64, k: usize)
     requires { k ≤ 8 }
 {
-    judge(mark, STEPS, 5, RING, 8, barred, walk, k);
+    let steps = offsets_of(STEPS);
+    let list = notation::places_of(RING);
+    let places = notation::places_of(walk);
+    calls::judge(mark, &steps[..5], &list[..8], barred, &places[..k]);
 }
 
 // Each walk has everything wrong that is tried after what it is refused for. The last three are not refused.
@@ -168,24 +139,12 @@ fn wrong_walks(mark: Mark) {
     judge_ring(mark, 0x0f, 0, 0);
 }
 
-// The first n rows, with room for so many offsets and neighbours.
-fn try_first(mark: Mark, rows: [u64; 64], n: usize, offset_room: usize, neighbour_room: usize)
-    requires { (n ≤ 64) × (offset_room ≤ 8) × (neighbour_room ≤ 10) }
-{
-    calls::to_lists(mark, &rows[..n], offset_room, neighbour_room);
-}
-
-// Four points, as digits.
+// Four points, as digits, with room for so many offsets and neighbours.
 fn try_rows(mark: Mark, plan: u64, offset_room: usize, neighbour_room: usize)
     requires { (offset_room ≤ 8) × (neighbour_room ≤ 10) }
 {
-    try_first(
-        mark,
-        notation::rows_of(plan),
-        4,
-        offset_room,
-        neighbour_room,
-    );
+    let rows = notation::rows_of(plan);
+    calls::to_lists(mark, &rows[..4], offset_room, neighbour_room);
 }
 
 // Each plan has everything wrong that is tried after what it is refused for. Three are the tree 0-1, 0-2, 1-3 with another first row: with 0 linked to itself,

@@ -1,5 +1,5 @@
 // All small plans, two-way and one-way.
-ghost use Rattle.std.specs.Prelude.{◌≤◌};
+ghost use Rattle.std.specs.Prelude.{◌≤◌, length};
 
 use crate::{listed, walks};
 use searches::Mark;
@@ -16,30 +16,31 @@ fn directed(n: usize, number: u64) -> [u64; 64]
 {
     let mut rows = [0u64; 64];
     let mut rest = number;
-    for u in 0..n {
+    for (u, row) in rows[..n].iter_mut().enumerate() {
         let others = rest & bitset::full_below(n - 1);
         let smaller = others & bitset::full_below(u);
-        rows[u] = smaller | ((others ^ smaller) << 1);
+        *row = smaller | ((others ^ smaller) << 1);
         rest = rest >> (n - 1);
     }
     rows
 }
 
 // The first n places of each order. Where n is below 3 most of them name a point that is none.
-fn judge_each(mark: Mark, rows: [u64; 64], n: usize)
-    requires { n ≤ 3 }
+fn judge_each(mark: Mark, rows: &[u64])
+    requires { length rows.now ≤ 3 }
 {
-    for i in 0..6 {
-        let walk = notation::places_of(ORDERS[i]);
-        listed::judge(mark, rows, n, 0, &walk[..n]);
+    let n = rows.len();
+    for order in ORDERS {
+        let walk = notation::places_of(order);
+        listed::judge(mark, rows, 0, &walk[..n]);
     }
 }
 
-fn convert(mark: Mark, rows: [u64; 64], n: usize)
-    requires { n ≤ 4 }
+fn convert(mark: Mark, rows: &[u64])
+    requires { length rows.now ≤ 4 }
 {
-    listed::to_lists(mark, rows, n, 1);
-    listed::to_rows(mark, rows, n, n + 1);
+    listed::to_lists(mark, rows, 1);
+    listed::to_rows(mark, rows, rows.len() + 1);
 }
 
 // The two-way plans of n points with the numbers below `count`.
@@ -48,8 +49,8 @@ fn two_way(n: usize, count: u64)
 {
     for number in 0..count {
         let rows = plans::numbered(n, number);
-        convert(Mark::TwoWay, rows, n);
-        judge_each(Mark::TwoWay, rows, n);
+        convert(Mark::TwoWay, &rows[..n]);
+        judge_each(Mark::TwoWay, &rows[..n]);
     }
 }
 
@@ -59,23 +60,23 @@ fn one_way(n: usize, count: u64)
 {
     for number in 0..count {
         let rows = directed(n, number);
-        convert(Mark::OneWay, rows, n);
-        judge_each(Mark::OneWay, rows, n);
+        convert(Mark::OneWay, &rows[..n]);
+        judge_each(Mark::OneWay, &rows[..n]);
     }
 }
 
 // Random walks, with nothing barred and with a random set.
-fn judge_some(rows: [u64; 64], number: u64) {
+fn judge_some(rows: &[u64], number: u64) {
     let r = plans::next(plans::next(number ^ 0x9e3779b97f4a7c15));
-    walks::judge_all(Mark::TwoWay, rows, 4, 0, r);
-    walks::judge_all(Mark::TwoWay, rows, 4, (r >> 20) & (r >> 30) & 15, r);
+    walks::judge_all(Mark::TwoWay, rows, 0, r);
+    walks::judge_all(Mark::TwoWay, rows, (r >> 20) & (r >> 30) & 15, r);
 }
 
 fn two_way_of_four() {
     for number in 0..64 {
         let rows = plans::numbered(4, number);
-        convert(Mark::TwoWay, rows, 4);
-        judge_some(rows, number);
+        convert(Mark::TwoWay, &rows[..4]);
+        judge_some(&rows[..4], number);
     }
 }
 

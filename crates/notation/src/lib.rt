@@ -2,7 +2,7 @@
 // number, 64 points in a row, and an output list before a call.
 #![tactic(auto)]
 
-use searches::{Comparison, Mark, Refusal};
+use searches::{Comparison, Kind, Mark, Refusal};
 use std::array;
 
 // Prints one byte.
@@ -17,15 +17,7 @@ pub fn show(n: u64) {
     io::print_decimal(1, n);
 }
 
-// The number that is printed for a mark: 0 two-way, 1 one-way.
-pub fn number(mark: Mark) -> u64 {
-    match mark {
-        Mark::TwoWay => 0,
-        Mark::OneWay => 1,
-    }
-}
-
-// The letter that is printed for a comparison.
+// The letter that is printed for a comparison; no derive gives one.
 pub fn letter(answer: Comparison) -> u8 {
     match answer {
         Comparison::Ahead => b'a',
@@ -89,6 +81,22 @@ pub fn show_entries<T: Copy + Into<u64>>(entries: &[T; 64], used: usize) {
     }
 }
 
+// How the line of a point begins.
+pub fn show_first(point: u8) {
+    io::print_decimal(1, u64::from(point));
+    put(b':');
+}
+
+// An open walk of this kind and mark: how many points there are and how many are placed, the rows and the placed points.
+pub fn show_walk(kind: Kind, mark: Mark, rows: &[u64; 64], n: usize, places: &[u8; 64], k: usize) {
+    io::print_decimal(1, u64::from(kind.0));
+    show(mark as u64);
+    show(n as u64);
+    show(k as u64);
+    show_entries(rows, n);
+    show_entries(places, k);
+}
+
 // Prints the rows of a plan.
 pub fn show_plan(rows: &[u64]) {
     for row in rows {
@@ -112,8 +120,8 @@ pub fn fresh() -> [u8; 66] {
 pub fn rows_of(plan: u64) -> [u64; 64] {
     let mut rows = [0u64; 64];
     let mut rest = plan;
-    for u in 0..8 {
-        rows[u] = rest >> 56;
+    for row in rows[..8].iter_mut() {
+        *row = rest >> 56;
         rest = rest << 8;
     }
     rows
@@ -123,8 +131,8 @@ pub fn rows_of(plan: u64) -> [u64; 64] {
 pub fn places_of(walk: u64) -> [u8; 64] {
     let mut places = [0u8; 64];
     let mut rest = walk;
-    for p in 0..8 {
-        places[p] = (rest / 0x10000000 % 16) as u8;
+    for place in places[..8].iter_mut() {
+        *place = (rest / 0x10000000 % 16) as u8;
         rest = rest << 4;
     }
     places
@@ -137,10 +145,8 @@ pub fn all_points() -> [u8; 64] {
 
 // The rows of 64 points, each linked to the one before it and the one after it.
 pub fn in_a_row() -> [u64; 64] {
-    let mut rows = [0u64; 64];
-    for u in 0..64 {
+    array::from_fn(|u| {
         let own = 1u64 << u;
-        rows[u] = (own >> 1) | (own << 1);
-    }
-    rows
+        (own >> 1) | (own << 1)
+    })
 }

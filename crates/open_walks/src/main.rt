@@ -7,7 +7,7 @@
 
 ghost use Rattle.std.specs.Prelude.{◌≤◌};
 
-use notation::{number, show};
+use notation::show;
 use searches::{Kind, Mark, Vertex};
 use traversal::{Stepped, Traversal};
 
@@ -38,7 +38,7 @@ fn shown(traversal: Traversal) -> Traversal {
     let mark = next.mark;
     let places = next.ordering;
     notation::show_answer(seen.set);
-    show(number(mark));
+    show(mark as u64);
     show(next.n as u64);
     show(next.k as u64);
     notation::show_list(&places[..5]);
@@ -78,10 +78,9 @@ fn play(kind: u8, mark: Mark, plan: u64, n: usize)
     requires { n ≤ 64 }
 {
     let opened = open(kind, mark, plan, n);
-    let calls = CALLS;
     let mut t = opened.traversal;
-    for i in 0..16 {
-        t = step(t, calls[i]);
+    for call in CALLS {
+        t = step(t, call);
     }
 }
 
@@ -92,48 +91,61 @@ fn tried(traversal: Traversal) {
 
 // What an open hands back; refused, a two-way open walk of kind 0 without points.
 fn show_open(kind: u8, mark: Mark, opened: Stepped) {
-    tried(told(kind, number(mark), opened));
+    tried(told(kind, mark as u64, opened));
 }
 
-// An open walk that nobody opened, with `last_row` and `last` for the last of its 64 rows and its 64 places. Where it is damaged, each call hands it
-// back as it is.
-fn made(kind: u8, mark: Mark, n: usize, k: usize, plan: u64, last_row: u64, walk: u64, last: u8) {
-    let mut rows = notation::rows_of(plan);
-    rows[63] = last_row;
-    let mut ordering = notation::places_of(walk);
-    ordering[63] = last;
-    tried(Traversal {
+// An open walk that nobody opened. Where it is damaged, each call hands it back as it is.
+fn made(kind: u8, mark: Mark, n: usize, k: usize, plan: u64, walk: u64) -> Traversal {
+    Traversal {
         kind: Kind(kind),
         mark,
         n,
-        rows,
+        rows: notation::rows_of(plan),
         barred: 0,
         k,
-        ordering,
-    });
+        ordering: notation::places_of(walk),
+    }
+}
+
+fn try_made(kind: u8, mark: Mark, n: usize, k: usize, plan: u64, walk: u64) {
+    tried(made(kind, mark, n, k, plan, walk));
+}
+
+// With 1 for the last of the 64 rows.
+fn damaged_row(kind: u8, mark: Mark) {
+    let mut row = made(kind, mark, 4, 1, RING, 0x10_000000);
+    row.rows[63] = 1;
+    tried(row);
+}
+
+// With 3 for the last of the 64 places.
+fn damaged_place(kind: u8, mark: Mark) {
+    let mut place = made(kind, mark, 4, 1, RING, 0x10_000000);
+    place.ordering[63] = 3;
+    tried(place);
 }
 
 // Well formed at first, then with one part damaged at a time.
 fn damaged(kind: u8, mark: Mark) {
-    made(kind, mark, 4, 1, RING, 0, 0x10_000000, 0);
-    made(kind, mark, 65, 1, RING, 0, 0x10_000000, 0);
-    made(kind, mark, 4, 65, RING, 0, 0x10_000000, 0);
-    made(kind, mark, 4, 5, RING, 0, 0x10_000000, 0);
-    made(kind, mark, 4, 1, 0x1a050a05_00000000, 0, 0x10_000000, 0);
-    made(kind, mark, 4, 1, 0x0b050a05_00000000, 0, 0x10_000000, 0);
-    made(kind, mark, 4, 1, RING, 1, 0x10_000000, 0);
-    made(kind, mark, 4, 1, RING, 0, 0x70_000000, 0);
-    made(kind, mark, 4, 2, RING, 0, 0x11_000000, 0);
-    made(kind, mark, 4, 2, RING, 0, 0x13_000000, 0);
-    made(kind, mark, 4, 1, RING, 0, 0x13_000000, 0);
-    made(kind, mark, 4, 1, RING, 0, 0x10_000000, 3);
+    try_made(kind, mark, 4, 1, RING, 0x10_000000);
+    try_made(kind, mark, 65, 1, RING, 0x10_000000);
+    try_made(kind, mark, 4, 65, RING, 0x10_000000);
+    try_made(kind, mark, 4, 5, RING, 0x10_000000);
+    try_made(kind, mark, 4, 1, 0x1a050a05_00000000, 0x10_000000);
+    try_made(kind, mark, 4, 1, 0x0b050a05_00000000, 0x10_000000);
+    damaged_row(kind, mark);
+    try_made(kind, mark, 4, 1, RING, 0x70_000000);
+    try_made(kind, mark, 4, 2, RING, 0x11_000000);
+    try_made(kind, mark, 4, 2, RING, 0x13_000000);
+    try_made(kind, mark, 4, 1, RING, 0x13_000000);
+    damaged_place(kind, mark);
 }
 
 // On a ring in which 3 leads to 0 and 0 not to 3: damaged if two-way. If one-way, the walks 1 and 3 0 pass, and 0 3 fails.
 fn valve(kind: u8, mark: Mark) {
-    made(kind, mark, 4, 1, 0x02050a05_00000000, 0, 0x10_000000, 0);
-    made(kind, mark, 4, 2, 0x02050a05_00000000, 0, 0x30_000000, 0);
-    made(kind, mark, 4, 2, 0x02050a05_00000000, 0, 0x03_000000, 0);
+    try_made(kind, mark, 4, 1, 0x02050a05_00000000, 0x10_000000);
+    try_made(kind, mark, 4, 2, 0x02050a05_00000000, 0x30_000000);
+    try_made(kind, mark, 4, 2, 0x02050a05_00000000, 0x03_000000);
 }
 
 fn played(kind: u8) {
@@ -162,13 +174,9 @@ fn opens(mark: Mark) {
 }
 
 fn main() {
-    played(0);
-    played(1);
-    played(2);
-    played(3);
-    played(4);
-    played(5);
-    played(6);
+    for kind in 0u8..7 {
+        played(kind);
+    }
     play(6, Mark::OneWay, RING, 4);
     damaged(6, Mark::OneWay);
     damaged(7, Mark::TwoWay);

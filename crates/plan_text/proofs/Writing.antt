@@ -1,23 +1,21 @@
 -- Texts written piece by piece, and the loops over the links, turn by turn.
 --   piece_room, front_room                 there is room for the next piece of a text, and for the front of a text, where there is room for the text
 --   pair_pieces                            a line with two numbers, piece by piece
---   sheet_head, sheet_link                 a line of a sheet, written to a list of its length
 --   links_counted                          the numbers that stand for a link, counted, are as many as there are links
 --   Listing format rows l begin out at c   the lines of the links below c are written from `begin` on, up to `at`;   listing_*
 -- Assumes nothing.
-use Prim.Native.Nat.{ℕ, zero, suc, ◌+◌, ◌*◌, ◌/◌, ◌%◌, ◌≤◌, ◌<◌}
+use Prim.Native.Nat.{ℕ, zero, suc, ◌+◌, ◌*◌, ◌≤◌, ◌<◌}
 use mathlib.Core.Path.{◌≡◌, refl, sym, ap, ◌∙◌, subst}
 use mathlib.Core.Bool.{Bool, true, false, cond}
 use mathlib.Core.List.{List, [], ◌∷◌, ◌++◌, append_assoc, map-id}
 use native.Mathlib.Numerals.{add-one}
 use native.Mathlib.Omega.{arith}
 use lib.Dec.{T}
-use lib.ListN.{length, replicate, length-append}
+use lib.ListN.{length, length-append}
 use lib.Seq.{sets}
-use Rattle.fields.specs.Field.{field, fields, line}
 use Rattle.std.specs.List.{count_by, range_with_len}
 use Rattle.std.proofs.lemmas.List.FromFn.{sum_by-map-range_with_len_more}
-use Rattle.sheet.specs.Written.{list_below, is_link, link_list, first_line, link_line, lines}
+use Rattle.sheet.specs.Written.{list_below, is_link, link_list, lines}
 use Rattle.wording.specs.Decimal.{decimal}
 use Rattle.wording.proofs.Writing.{Written, written_long, written_more}
 use Rattle.edge_lines.specs.Writing.{pair_text}
@@ -37,16 +35,6 @@ module _ (l : List ℕ) (at : ℕ) where
 pub pair_pieces : (words : List ℕ) (x y : ℕ) → (((words ++ decimal x) ++ (32 ∷ [])) ++ decimal y) ++ (10 ∷ []) ≡ pair_text words x y ++ 10 ∷ []
 unfolding pair_text
 pair_pieces words x y = simp append_assoc
-
--- ---- lines of a sheet
-
-pub sheet_head : (n m : ℕ) {two one : List ℕ} → two ≡ sets (replicate 13 0) 0 (line (n ∷ m ∷ [])) → one ≡ sets two 8 (line (0 ∷ [])) → one ≡ first_line n m 0
-unfolding field fields line first_line
-sheet_head n m p q = q ∙ ap (λ (b : List ℕ). sets b 8 (line (0 ∷ []))) p
-
-pub sheet_link : (c : ℕ) {two : List ℕ} → two ≡ sets (replicate 9 0) 0 (line (c / 64 ∷ c % 64 ∷ [])) → two ≡ link_line c
-unfolding field fields line link_line
-sheet_link c p = p
 
 -- ---- counting the links
 

@@ -39,6 +39,7 @@ fn link_count(rows: &[u64]) -> usize
 }
 
 // Writes the text of a graph that is not refused to the front of `output`, and answers where it ends.
+// The format is a parameter, as `plan_text`, `head_text` and `link_text` of specs/Text.antt have it; two functions would need the loop and its proof twice.
 pub fn write_plan(format: Format, rows: &[u64], output: &mut [u8]) -> usize
     requires { (first_refusal (two_way_tests Mark.TwoWay rows.now) ≡ none) × (room ≤ length output.old) }
     ensures output { output.new ≡ sets output.old 0 (plan_text format rows.now) }

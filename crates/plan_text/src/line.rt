@@ -1,36 +1,12 @@
 // The lines of a text: the first one, and that of a link, in either format.
+// The format is a parameter, as it is one of `head_text` and `link_text` of specs/Text.antt. `n` and `m` are numbers that are written, no lengths of a list.
 ghost use Rattle.std.specs.Prelude.{◌≡◌, ◌+◌, ◌≤◌, ◌<◌, length};
 ghost use Rattle.std.proofs.lemmas.List.Edits.{sets};
-ghost use Rattle.sheet.specs.Written.{first_line, link_line};
 ghost use Rattle.plan_text.specs.Text.{head_text, link_text};
 
 use crate::Format;
 use crate::decimal::put_pair;
-use fields::write::{line_of_one, line_of_two};
-use wording::write::put;
-
-// The first line of a sheet with an empty walk.
-fn write_sheet_head(n: usize, m: usize, output: &mut [u8]) -> usize
-    requires { length (first_line n m 0) ≤ length output.old }
-    ensures output { output.new ≡ sets output.old 0 (first_line n m 0) }
-    ensures end { result ≡ length (first_line n m 0) }
-{
-    let mut line = [0u8; 13];
-    line_of_two(&mut line, 0, n, m);
-    line_of_one(&mut line, 8, 0);
-    put(output, 0, &line)
-}
-
-// The line of a link in a sheet.
-fn write_sheet_link(c: usize, output: &mut [u8], at: usize) -> usize
-    requires { at + length (link_line c) ≤ length output.old }
-    ensures output { output.new ≡ sets output.old at (link_line c) }
-    ensures end { result ≡ at + length (link_line c) }
-{
-    let mut line = [0u8; 9];
-    line_of_two(&mut line, 0, c / 64, c % 64);
-    put(output, at, &line)
-}
+use fields::write::line_of;
 
 // Writes the first line for `n` vertices and `m` links to the front of `output`, and answers where the next one begins.
 pub fn write_head(format: Format, n: usize, m: usize, output: &mut [u8]) -> usize
@@ -40,7 +16,7 @@ pub fn write_head(format: Format, n: usize, m: usize, output: &mut [u8]) -> usiz
 {
     match format {
         Format::Edges => put_pair(output, 0, b"p edge ", n, m),
-        Format::Sheet => write_sheet_head(n, m, output),
+        Format::Sheet => line_of(output, 0, &[n, m, 0]),
     }
 }
 
@@ -52,6 +28,6 @@ pub fn write_link(format: Format, c: usize, output: &mut [u8], at: usize) -> usi
 {
     match format {
         Format::Edges => put_pair(output, at, b"e ", c / 64 + 1, c % 64 + 1),
-        Format::Sheet => write_sheet_link(c, output, at),
+        Format::Sheet => line_of(output, at, &[c / 64, c % 64]),
     }
 }

@@ -6,13 +6,13 @@ ghost use Rattle.std.specs.Prelude.{◌<◌, ◌≤◌};
 use searches::Mark;
 
 // How many of the possible links a plan has: a quarter, half, three quarters; or three quarters of those between two even points or two odd ones.
-pub const FEW: u8 = 0;
-
-pub const HALF: u8 = 1;
-
-pub const MANY: u8 = 2;
-
-pub const PIECES: u8 = 3;
+#[derive(Clone, Copy, PartialEq, Eq)]
+pub enum Links {
+    Few,
+    Half,
+    Many,
+    Pieces,
+}
 
 const EVEN: u64 = 0x5555555555555555;
 
@@ -44,29 +44,29 @@ pub fn shuffled(set: u64, random: u64) -> [u8; 64] {
     let mut walk = [0u8; 64];
     let mut left = set;
     let mut r = random;
-    for p in 0..64 {
+    for place in walk.iter_mut() {
         r = next(r);
         let point = chosen(left, r);
-        walk[p] = point;
+        *place = point;
         left = bitset::remove(left, point as usize);
     }
     walk
 }
 
-fn random_set(links: u8, random: u64) -> u64 {
+fn random_set(links: Links, random: u64) -> u64 {
     let x = random >> 20;
     let y = random >> 40;
     match links {
-        FEW => x & y,
-        HALF => x,
-        _ => x | y,
+        Links::Few => x & y,
+        Links::Half => x,
+        Links::Many | Links::Pieces => x | y,
     }
 }
 
 // The points that u may be linked to, or may lead to.
-fn others(n: usize, links: u8, u: usize) -> u64 {
+fn others(n: usize, links: Links, u: usize) -> u64 {
     let points = bitset::remove(bitset::full_below(n), u);
-    if links != PIECES {
+    if links != Links::Pieces {
         return points;
     }
     if u % 2 == 0 {
@@ -82,18 +82,19 @@ fn linked(rows: [u64; 64], set: u64, u: usize) -> [u64; 64]
 {
     let mut all = rows;
     all[u] = set & bitset::full_below(u);
-    for v in 0..u {
-        all[v] = all[v] | (((set >> v) & 1) << u);
+    for (v, row) in all[..u].iter_mut().enumerate() {
+        *row = *row | (((set >> v) & 1) << u);
     }
     all
 }
 
 // A plan of n points; the other rows are 0. One-way, u leads to each point that is drawn for it; two-way, it is linked to the smaller ones of them.
-pub fn small(mark: Mark, n: usize, links: u8, random: u64) -> [u64; 64]
+pub fn small(mark: Mark, n: usize, links: Links, random: u64) -> [u64; 64]
     requires { n ≤ 64 }
 {
     let mut rows = [0u64; 64];
     let mut r = random;
+    // two-way, the step for u writes the rows of smaller points as well, so it takes all rows
     for u in 0..n {
         r = next(r);
         let drawn = others(n, links, u) & random_set(links, r);
@@ -113,6 +114,7 @@ pub fn numbered(n: usize, number: u64) -> [u64; 64]
     let mut rows = [0u64; 64];
     let mut rest = number;
     for u in 0..n {
+        // assigned in one step, the check would not take the loop
         let more = linked(rows, rest, u);
         rows = more;
         rest = rest >> u;
@@ -131,7 +133,7 @@ pub fn grown(n: usize, random: u64) -> [u64; 64]
         r = next(r);
         let c = ((r >> 20) % (u as u64)) as usize;
         let clique = bitset::insert(rows[c] & bitset::full_below(c), c);
-        rows = linked(rows, clique & random_set(MANY, next(r)), u);
+        rows = linked(rows, clique & random_set(Links::Many, next(r)), u);
     }
     rows
 }
@@ -149,8 +151,8 @@ fn turned(mark: Mark, set: u64) -> u64 {
 pub fn largest(mark: Mark, random: u64) -> [u64; 64] {
     let mut set = random & next(random) & next(next(random));
     let mut rows = [0u64; 64];
-    for u in 0..64 {
-        rows[u] = bitset::remove(set, u);
+    for (u, row) in rows.iter_mut().enumerate() {
+        *row = bitset::remove(set, u);
         set = turned(mark, set);
     }
     rows

@@ -63,6 +63,7 @@ fn position_of(ordering: &[u8], vertex: Vertex) -> Option<Position>
     ensures { MatchOption result (position_of ordering.now vertex.0 ≡ length ordering.now)
         (λ p. (p.0 ≡ position_of ordering.now vertex.0) × (p.0 < length ordering.now)) }
 {
+    // the entries are bytes, so it is the number of the vertex that they are compared with
     let p = ordering.iter().position(|v| *v == vertex.0)?;
     Some(Position(p))
 }
@@ -75,6 +76,7 @@ fn parent(rows: &[u64], ordering: &[u8], position: Position) -> Option<Position>
 {
     let v = vertex_at(ordering, position).0 as usize;
     let q = position.0;
+    // the number is a position and is answered, so an iterator would count it again
     for p in 0..q {
         let before = Position(p);
         if bitset::contains(row_of(rows, vertex_at(ordering, before)), v) {
@@ -90,6 +92,7 @@ fn depth(rows: &[u64], ordering: &[u8], position: Position) -> usize
     ensures { result ≡ depth_of (arcs rows.now) ordering.now position.0 }
 {
     let mut at = position;
+    // counted by hand, since the number of steps is what is answered
     let mut steps = 0;
     while let Some(up) = parent(rows, ordering, at) {
         at = up;

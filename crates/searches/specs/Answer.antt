@@ -11,6 +11,7 @@
 --   unbarred barred v                    v is in service: it is not one of the barred vertices               [02, K8: barred points]
 --   barred_outside n barred, barred_named barred w k   a bit at or above n in the barred set; a barred vertex among the first k entries of w
 --   open_tests_barring, judge_tests_barring, list_tests_barring, carry_on_tests_barring   what is refused where vertices are barred: on the whole graph     [02: K8]
+--   ordering_tests n barred w               the part of judge's tests that is on the ordering, for a graph of n vertices in any form
 --   open_barring, judge_barring, carry_on_barring, output_barring   what is answered, and left in the output list, where vertices are barred: that of
 --                                        the graph without them                                              [02: K8]
 --   two_way_tests mark rows                what is refused where only a two-way graph is accepted               [02: K9]
@@ -142,6 +143,15 @@ judge_tests_barring kind mark rows barred w =
     open_tests_barring kind mark rows barred
     ++ (6, ltb (length rows) (length w))
     ∷ (8, vertex_outside (length rows) w (length w))
+    ∷ (9, repeated w (length w))
+    ∷ (24, barred_named barred w (length w))
+    ∷ []
+
+-- what is refused of an ordering, once the graph is accepted
+unfoldable pub ordering_tests : ℕ → ℕ → List ℕ → List (ℕ × Bool)
+ordering_tests n barred w =
+    (6, ltb n (length w))
+    ∷ (8, vertex_outside n w (length w))
     ∷ (9, repeated w (length w))
     ∷ (24, barred_named barred w (length w))
     ∷ []

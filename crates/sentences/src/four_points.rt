@@ -1,7 +1,7 @@
 // Calls on four points: examples, and refused ones. Plans and walks are written as digits (`rows_of` and `places_of` of `notation`).
 ghost use Rattle.std.specs.Prelude.{◌≤◌};
 
-use crate::lines::{say, say_first};
+use crate::lines::say;
 use notation::{places_of, rows_of};
 use searches::Mark;
 
@@ -15,7 +15,9 @@ const RING: u64 = 0x0a050a05_00000000;
 fn say_on(mark: Mark, plan: u64, barred: u64, walk: u64, k: usize, size: usize)
     requires { (k ≤ 64) × (size ≤ 128) }
 {
-    say_first(mark, rows_of(plan), 4, barred, places_of(walk), k, size);
+    let rows = rows_of(plan);
+    let places = places_of(walk);
+    say(mark, &rows[..4], barred, &places[..k], size);
 }
 
 // Walks that pass some kinds and fail others, one that fails all, and one that is empty; then no points at all.
@@ -27,7 +29,7 @@ pub fn examples(mark: Mark) {
     say_on(mark, RING, 0, 0x01320000, 4, 96);
     say_on(mark, TREE, 1, 0x12000000, 2, 96);
     say_on(mark, TREE, 0, 0, 0, 96);
-    say_first(mark, rows_of(0), 0, 0, places_of(0), 0, 96);
+    say(mark, &[], 0, &[], 96);
 }
 
 // With an output list that is too short by one byte, and with one that is not.

@@ -55,7 +55,7 @@ fn say_as_each(mark: Mark, rows: &[u64], barred: u64, walk: &[u8], size: usize)
 pub fn say(mark: Mark, rows: &[u64], barred: u64, walk: &[u8], size: usize)
     requires { size ≤ 128 }
 {
-    io::print_decimal(1, notation::number(mark));
+    io::print_decimal(1, mark as u64);
     show_bar();
     notation::show_plan(rows);
     show_bar();
@@ -66,19 +66,4 @@ pub fn say(mark: Mark, rows: &[u64], barred: u64, walk: &[u8], size: usize)
     show(size as u64);
     put(b'\n');
     say_as_each(mark, rows, barred, walk, size);
-}
-
-// The same on the first n rows, with the first k places.
-pub fn say_first(
-    mark: Mark,
-    rows: [u64; 64],
-    n: usize,
-    barred: u64,
-    places: [u8; 64],
-    k: usize,
-    size: usize,
-)
-    requires { (n ≤ 64) × (k ≤ 64) × (size ≤ 128) }
-{
-    say(mark, &rows[..n], barred, &places[..k], size);
 }

@@ -9,18 +9,18 @@
 mod four_points;
 mod lines;
 
-ghost use Rattle.std.specs.Prelude.{◌≤◌};
+ghost use Rattle.std.specs.Prelude.{◌≤◌, length};
 
-use crate::lines::say_first;
-use plans::{next, shuffled};
+use crate::lines::say;
+use plans::{Links, next, shuffled};
 use searches::{Kind, Mark};
 
 // How many bytes an output list must have.
 const ENOUGH: usize = 96;
 
 // A random number for each mark, n and number of links.
-fn seed(mark: Mark, n: usize, links: u8) -> u64 {
-    let digits = (n as u64) ^ (u64::from(links) << 8) ^ (notation::number(mark) << 24);
+fn seed(mark: Mark, n: usize, links: Links) -> u64 {
+    let digits = (n as u64) ^ ((links as u64) << 8) ^ ((mark as u64) << 24);
     next(next(next(digits ^ 0x2545f4914f6cdd1d)))
 }
 
@@ -30,16 +30,17 @@ fn unbarred(n: usize, barred: u64) -> u64 {
 }
 
 // An order of all unbarred points that passes this kind.
-fn passing(kind: u8, mark: Mark, rows: [u64; 64], n: usize, barred: u64, random: u64) -> [u8; 64]
-    requires { n ≤ 64 }
+fn passing(kind: u8, mark: Mark, rows: &[u64], barred: u64, random: u64) -> [u8; 64]
+    requires { length rows.now ≤ 64 }
 {
+    let n = rows.len();
     let tie_break = shuffled(bitset::full_below(n), random);
     let mut walk = [0u8; 64];
     // where it is refused, the walk is that of zeros
     let _ = engine::carry_on(
         Kind(kind),
         mark,
-        &rows[..n],
+        rows,
         barred,
         &tie_break[..n],
         &mut walk,
@@ -48,73 +49,63 @@ fn passing(kind: u8, mark: Mark, rows: [u64; 64], n: usize, barred: u64, random:
     walk
 }
 
-fn say_passing(
-    kind: u8,
-    mark: Mark,
-    rows: [u64; 64],
-    n: usize,
-    barred: u64,
-    random: u64,
-    size: usize,
-)
-    requires { (n ≤ 64) × (size ≤ 128) }
+fn say_passing(kind: u8, mark: Mark, rows: &[u64], barred: u64, random: u64, size: usize)
+    requires { (length rows.now ≤ 64) × (size ≤ 128) }
 {
-    let k = bitset::size(unbarred(n, barred));
-    let walk = passing(kind, mark, rows, n, barred, random);
+    let k = bitset::size(unbarred(rows.len(), barred));
+    let walk = passing(kind, mark, rows, barred, random);
     if k < 65 {
-        say_first(mark, rows, n, barred, walk, k, size);
+        say(mark, rows, barred, &walk[..k], size);
     }
 }
 
 // All unbarred points in a random order, and the first two of them; then orders that pass LexBFS, LexDFS and MCS. Each other kind is passed by one of these.
-fn say_some(mark: Mark, rows: [u64; 64], n: usize, barred: u64, random: u64, size: usize)
-    requires { (n ≤ 64) × (size ≤ 128) }
+fn say_some(mark: Mark, rows: &[u64], barred: u64, random: u64, size: usize)
+    requires { (length rows.now ≤ 64) × (size ≤ 128) }
 {
-    let k = bitset::size(unbarred(n, barred));
-    let walk = shuffled(unbarred(n, barred), random);
+    let points = unbarred(rows.len(), barred);
+    let k = bitset::size(points);
+    let walk = shuffled(points, random);
     if k < 65 {
-        say_first(mark, rows, n, barred, walk, k, size);
+        say(mark, rows, barred, &walk[..k], size);
     }
-    say_first(mark, rows, n, barred, walk, 2, size);
-    say_passing(3, mark, rows, n, barred, random, size);
-    say_passing(4, mark, rows, n, barred, random, size);
-    say_passing(6, mark, rows, n, barred, random, size);
+    say(mark, rows, barred, &walk[..2], size);
+    say_passing(3, mark, rows, barred, random, size);
+    say_passing(4, mark, rows, barred, random, size);
+    say_passing(6, mark, rows, barred, random, size);
 }
 
 // A random plan, with nothing barred and with a random set.
-fn play(mark: Mark, n: usize, links: u8)
+fn play(mark: Mark, n: usize, links: Links)
     requires { n ≤ 64 }
 {
     let r = seed(mark, n, links);
     let rows = plans::small(mark, n, links, r);
     let barred = bitset::full_below(n) & (r >> 9) & (r >> 40);
-    say_some(mark, rows, n, 0, r, ENOUGH);
-    say_some(mark, rows, n, barred, next(r), 128);
+    say_some(mark, &rows[..n], 0, r, ENOUGH);
+    say_some(mark, &rows[..n], barred, next(r), 128);
 }
 
 fn play_each_size(mark: Mark) {
     for n in 0..10 {
-        play(mark, n, plans::HALF);
+        play(mark, n, Links::Half);
     }
 }
 
 // Random plans of 64 points.
 fn play_largest(mark: Mark) {
-    let r = seed(mark, 64, plans::FEW);
+    let r = seed(mark, 64, Links::Few);
     let rows = plans::largest(mark, r);
-    say_some(mark, rows, 64, 0, r, 97);
-    say_some(mark, rows, 64, (r >> 3) & (r << 7) & next(r), r, ENOUGH);
+    say_some(mark, &rows, 0, r, 97);
+    say_some(mark, &rows, (r >> 3) & (r << 7) & next(r), r, ENOUGH);
 }
 
 // 64 points with the link 61-63, and the walk 61 62: the longest sentences.
 fn say_longest(mark: Mark) {
     let mut rows = [0u64; 64];
-    let mut walk = [0u8; 64];
     rows[61] = 1 << 63;
     rows[63] = 1 << 61;
-    walk[0] = 61;
-    walk[1] = 62;
-    say_first(mark, rows, 64, 0, walk, 2, ENOUGH);
+    say(mark, &rows, 0, &[61, 62], ENOUGH);
 }
 
 fn main() {
@@ -122,8 +113,8 @@ fn main() {
     four_points::examples(Mark::OneWay);
     play_each_size(Mark::TwoWay);
     play_each_size(Mark::OneWay);
-    play(Mark::TwoWay, 8, plans::PIECES);
-    play(Mark::OneWay, 8, plans::PIECES);
+    play(Mark::TwoWay, 8, Links::Pieces);
+    play(Mark::OneWay, 8, Links::Pieces);
     play_largest(Mark::TwoWay);
     play_largest(Mark::OneWay);
     say_longest(Mark::TwoWay);

@@ -13,6 +13,7 @@ use searches::Refusal;
 #[derive(Clone, Copy)]
 pub struct Held {
     pub n: usize,
+    // There is no heap, so the lists have a fixed length, and n and k stand beside them.
     pub rows: [u64; 64],
     pub k: usize,
     pub ordering: [u8; 64],
@@ -22,6 +23,7 @@ pub struct Held {
 #[derive(Clone, Copy)]
 pub struct Unreadable {
     pub refusal: Refusal,
+    // A number and no Option: `line_in` and `stopped_in` of specs/ are numbers, 0 where no line is named.
     pub line: usize,
 }
 
@@ -55,6 +57,7 @@ fn decide(parsed: Parsed) -> Result<(), Unreadable>
     Ok(())
 }
 
+// The answer for a sheet that is refused.
 fn unread(refusal: Refusal, line: usize) -> Result<(), Unreadable>
     ensures { result ≡ Err (record { refusal = refusal; line = line }) }
 {

@@ -1,4 +1,5 @@
-// What is refused of an ordering on adjacency lists.
+// What is refused of an ordering on adjacency lists. These are not the tests of `checks`, as 26 stands for 3, and the graph is a `Layout` only once 26 does not
+// apply (`open_tests_listed`, `judge_tests_listed`).
 ghost use Rattle.std.specs.Prelude.{◌≡◌, IfOk};
 ghost use Rattle.searches.specs.Answer.{first_refusal, refusal_of};
 ghost use Rattle.sparse.specs.Judge.{open_tests_listed, judge_tests_listed};
@@ -42,19 +43,6 @@ pub fn judge_refusal<'a>(
     ensures lists { IfOk result (λ layout. (layout.offsets.now ≡ offsets.now) × (layout.neighbours.now ≡ neighbours.now)) }
 {
     let layout = open_refusal(kind, mark, offsets, neighbours, barred)?;
-    let n = layout.vertex_count();
-    let length = ordering.len();
-    if n < length {
-        return Err(Refusal::OrderingTooLong);
-    }
-    if lookup::entries::vertex_outside(ordering, length, n) {
-        return Err(Refusal::VertexOutOfRange);
-    }
-    if lookup::entries::repeated(ordering, length) {
-        return Err(Refusal::RepeatedVertex);
-    }
-    if lookup::entries::vertex_barred(ordering, length, barred) {
-        return Err(Refusal::BarredVertex);
-    }
+    checks::ordering_refusal(layout.vertex_count(), barred, ordering)?;
     Ok(layout)
 }

@@ -19,6 +19,7 @@ pub struct Replayed {
 
 // Places the first `k` vertices of `ordering` up to the first that was not offered. No vertex of `barred` is ever unplaced, so nobody is compared with one.
 // `labels` comes in empty and goes out with the labels, the running values and the weights of that moment.
+// The list has `k` beside it, as in the definitions of the clauses: carry-on replays the first `k` entries of the list that it then writes to.
 pub fn replay<G: Graph>(
     graph: G,
     barred: u64,
@@ -44,6 +45,7 @@ pub fn replay<G: Graph>(
         reached: 0,
         offered: all,
     };
+    // the position is what a vertex is placed at and what is answered, so an iterator over the entries would count it again
     for j in 0..k {
         let b = vertex_at(ordering, Position(j));
         if !offers::leaders::is_open(labels, stage.free, stage.reached, stage.offered, b) {

@@ -1,3 +1,5 @@
 pub mod Bits
 pub mod Words
 pub mod Emptying
+pub mod Ranges
+pub mod Found

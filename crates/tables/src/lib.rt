@@ -73,6 +73,7 @@ pub fn empty_row(labels: &mut [u64; 4096], v: usize)
     }
 }
 
+// The number for none is compared: 512 comes behind every position, so whose first own position is smaller is ahead, with no case for none.
 // The smallest position in the row of `c` that is not in the row of `b`; 512 where there is none.
 pub fn first_only(labels: &[u64; 4096], c: usize, b: usize) -> usize
     requires { (c < 512) × (b < 512) }
@@ -87,13 +88,14 @@ pub fn first_only(labels: &[u64; 4096], c: usize, b: usize) -> usize
     512
 }
 
-// One more than the largest number of the set; 0 where it is empty.
+// One more than the largest number of the set; 0 where it is empty, as in `past_last`.
 fn past_largest(set: u64) -> usize
     ensures { result ≡ past_last 64 (member set) }
 {
     64 - u64::leading_zeros(set) as usize
 }
 
+// Here, too, the number for none is compared: 0 comes before one more than any position.
 // One more than the largest position in the row of `c` that is not in the row of `b`; 0 where there is none.
 pub fn last_only(labels: &[u64; 4096], c: usize, b: usize) -> usize
     requires { (c < 512) × (b < 512) }

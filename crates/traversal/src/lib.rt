@@ -1,5 +1,6 @@
 // The open walk: a graph with its mark and its barred vertices, a kind of search, and an ordering that grows and shrinks by one vertex. It is a state by value:
 // each call takes it, and hands it back with the answer. Its fields may hold anything; what is not well formed is refused, and handed back as it came.
+// That the open walk comes back beside each answer, beside a refusal, too, is the form that the requirements name. So a refusal is not passed on by `?`.
 #![tactic(auto)]
 
 mod comparison;

@@ -3,7 +3,7 @@
 --   completes_same                 to complete a violation is to make one
 --   completes_vertex, completes_behind   who does is a vertex, and where it is placed it is behind j
 --   first_there, first_nowhere     the search by number tells whether position i starts a violation
---   last_third                     what the two steps find is the first candidate
+--   last_third, last_vertex        what the two steps find is the first candidate, and a vertex
 -- Assumes nothing.
 use mathlib.Core.Path.{◌≡◌, refl, sym, ap, ap₂, ◌∙◌, subst}
 use mathlib.Core.Bool.{Bool, true, false, cond, not, ◌&&◌}
@@ -16,7 +16,7 @@ use lib.ListN.{length, get_or}
 use Rattle.bitset.specs.Below.{first_below}
 use Rattle.bitset.specs.Word.{member, common}
 use Rattle.bitset.proofs.Tests.{and_in, and_out, and_same, and_true, is_true, below_or, three_ways, cond_yes, cond_no}
-use Rattle.bitset.proofs.Below.{IsFirst, first, first_earliest, first_unique, any_out, any_at}
+use Rattle.bitset.proofs.Below.{IsFirst, first, first_found, first_earliest, first_unique, any_out, any_at}
 use Rattle.bitset.proofs.Word.{member_zero, member_common}
 use Rattle.searches.specs.Kind.{Search}
 use Rattle.searches.specs.Ordering.{arcs, at, placed}
@@ -202,3 +202,8 @@ module _ (s : Search) (rows w labels : List ℕ) (free k j i : ℕ) {front mine 
             let z : number ≡ k + number - k = omega arith in
             cond_no (ltb p k) (at w p) number (λ u. omega (arith, ltb→lt p k u)) ∙ z ∙ sym (last_number (k + number) (omega arith)).0
             ∙ ap (λ (x : ℕ). third w k x) (first_unique (by_number l t))
+
+    pub last_vertex : T (first_in s rows w labels free j k i) → last_of s labels front i mine w j k < n
+    unfolding first_in
+    last_vertex t =
+        omega (arith, last_third refl t, third_vertex w k n able.vertices (first_below (k + n) last) (first_found (any_out (k + n) last t)))

@@ -3,15 +3,19 @@
 --   scanned_first, scanned_none    a scan of the front that stops at the smallest number that completes a violation
 --   behind_start, behind_same      where the loop over the positions behind j begins, and what it asks at one of them
 --   last_by_position, last_by_number  what the two steps answer together
+--   last_numbered                  what they answer where no position was found
+--   sought                         whether a search by number found a vertex
 --   first_starts, shown            what the searches find is the first violation
 -- Assumes nothing.
-use mathlib.Core.Path.{◌≡◌, sym, ap, ap₂, ◌∙◌, subst}
+use mathlib.Core.Path.{◌≡◌, refl, sym, ap, ap₂, ◌∙◌, subst}
 use mathlib.Core.Bool.{Bool, true, false, ◌&&◌}
 use mathlib.Core.List.{List}
 use Prim.Native.Nat.{ℕ, ◌+◌, ◌<◌, ◌≤◌}
 use native.Mathlib.Omega.{arith}
 use lib.Dec.{T, ltb, ltb→lt, lt→ltb}
 use lib.ListN.{length, get_or}
+use Rattle.std.specs.Prelude.{Option, Some, None, MatchOption}
+use Rattle.std.specs.Option.{is_some}
 use Rattle.bitset.specs.Below.{any_below, first_below}
 use Rattle.bitset.specs.Word.{member}
 use Rattle.bitset.proofs.Tests.{and_in, and_out, is_true, cond_yes, cond_no}
@@ -22,6 +26,7 @@ use Rattle.bitset.proofs.Passed.{Passed}
 use Rattle.searches.specs.Kind.{Search}
 use Rattle.searches.specs.Ordering.{at}
 use Rattle.searches.specs.Violation.{third, fails}
+use Rattle.searches.specs.declared.Vertex.{Vertex}
 use Rattle.labels.specs.Words.{unexcused_in}
 use Rattle.violation.specs.Fault.{last_in, first_in, completes_in, behind_in, last_of, first_fault}
 
@@ -85,6 +90,25 @@ module _ (s : Search) (labels : List ℕ) (front i mine : ℕ) where
       let first_behind = first_below k (behind_in s labels front i mine w j) in
       is
       ∙ sym (cond_no (ltb first_behind k) (at w first_behind) (first_below 64 (completes_in s labels front i mine)) (λ t. omega (arith, ltb→lt first_behind k t)))
+
+-- the same where no position was found, of what the search by number gave
+module _ (s : Search) (labels : List ℕ) (front i mine : ℕ) (w : List ℕ) (j k : ℕ) where
+  abbrev number : ℕ
+  number = first_below 64 (completes_in s labels front i mine)
+
+  abbrev shown_last : ℕ
+  shown_last = last_of s labels front i mine w j k
+
+  pub last_numbered : first_below k (behind_in s labels front i mine w j) ≡ k → (r : Option Vertex) → MatchOption r (number ≡ 64) (λ c. (c.0 ≡ number) × (c.0 < 64))
+      → MatchOption r (shown_last ≡ 64) (λ c. c.0 ≡ shown_last)
+  last_numbered e None none = sym (last_by_number s labels front i mine w j k (sym e) (omega arith) refl) ∙ none
+  last_numbered e (Some c) (is, _) = last_by_number s labels front i mine w j k (sym e) (omega arith) is
+
+-- whether a search by number found a vertex
+pub sought : {x : ℕ} (r : Option Vertex) → MatchOption r (x ≡ 64) (λ c. (c.0 ≡ x) × (c.0 < 64)) → {b : Bool} → b ≡ is_some r
+    → (b ≡ true → x < 64) × (b ≡ false → 64 ≤ x)
+sought None none e = (λ t. absurd (subst (λ (b : Bool). T b) (sym t ∙ e) tt), λ f. omega arith)
+sought (Some c) (is, l) e = (λ t. omega arith, λ f. absurd (subst (λ (b : Bool). T b) (sym e ∙ f) tt))
 
 -- ---- what is shown
 

@@ -1,8 +1,8 @@
 // The first violation at a vertex that was not offered. Its third vertex is looked for by position first, behind the middle one, and then
-// by number.
+// by number. The two loops over positions count: the position is what they answer, and an iterator over the entries would count it again.
 #![tactic(auto)]
 
-ghost use Rattle.std.specs.Prelude.{◌≡◌, ◌<◌, T, Ok};
+ghost use Rattle.std.specs.Prelude.{◌≡◌, ◌<◌, T, Ok, MatchOption, length};
 ghost use Rattle.bitset.specs.Below.{any_below, first_below};
 ghost use Rattle.searches.specs.Kind.{search_of};
 ghost use Rattle.searches.specs.Answer.{verdict_of};
@@ -69,110 +69,115 @@ fn completes(labels: &Labels, front: u64, i: Position, mine: Profile, c: Vertex)
     is_unexcused(labels.kind, i, labels.profile(c), mine)
 }
 
-// Of the vertices that complete a violation the one with the smallest number; 64 where there is none.
-pub fn first_by_number(labels: &Labels, front: u64, i: Position, mine: Profile) -> Vertex
+// Of the vertices that complete a violation the one with the smallest number.
+fn first_by_number(labels: &Labels, front: u64, i: Position, mine: Profile) -> Option<Vertex>
     requires { (i.0 < 64) × (mine ≡ profile_of (search_of labels.now.kind.0) mine.label) }
-    ensures { result.0 ≡ first_below 64 (completes_in (search_of labels.now.kind.0) labels.now.words front i.0 mine.label) }
+    ensures { MatchOption result (first_below 64 (completes_in (search_of labels.now.kind.0) labels.now.words front i.0 mine.label) ≡ 64)
+        (λ c. (c.0 ≡ first_below 64 (completes_in (search_of labels.now.kind.0) labels.now.words front i.0 mine.label)) × (c.0 < 64)) }
 {
     let mut rest = front;
     while rest != 0 {
         let number = bitset::smallest(rest) as u8;
         let c = Vertex(number);
         if is_unexcused(labels.kind, i, labels.profile(c), mine) {
-            return c;
+            return Some(c);
         }
         rest = bitset::without_smallest(rest);
     }
-    Vertex(64)
+    None
 }
 
-// The first position behind `j` and below `k` with a vertex that completes a violation; `k` where there is none.
+// The first position behind `j` with a vertex that completes a violation.
 fn first_by_position(
     ordering: &[u8],
-    k: usize,
     labels: &Labels,
     front: u64,
     j: Position,
     i: Position,
     mine: Profile,
-) -> Position
-    requires { Positioned ordering.now k j.0 i.0 × (mine ≡ profile_of (search_of labels.now.kind.0) mine.label) }
-    ensures { result.0 ≡ first_below k (behind_in (search_of labels.now.kind.0) labels.now.words front i.0 mine.label ordering.now j.0) }
+) -> Option<Position>
+    requires { Positioned ordering.now (length ordering.now) j.0 i.0 × (mine ≡ profile_of (search_of labels.now.kind.0) mine.label) }
+    ensures { MatchOption result
+        (first_below (length ordering.now) (behind_in (search_of labels.now.kind.0) labels.now.words front i.0 mine.label ordering.now j.0) ≡ length ordering.now)
+        (λ p. (p.0 ≡ first_below (length ordering.now) (behind_in (search_of labels.now.kind.0) labels.now.words front i.0 mine.label ordering.now j.0))
+        × (p.0 < length ordering.now)) }
 {
-    for p in j.0 + 1..k {
+    for p in j.0 + 1..ordering.len() {
         let c = vertex_at(ordering, Position(p));
         if completes(labels, front, i, mine, c) {
-            return Position(p);
+            return Some(Position(p));
         }
     }
-    Position(k)
+    None
 }
 
 // The third vertex of the first violation: by position behind `j`, and where none is found there by number.
-pub fn first_last(
+fn first_last(
     ordering: &[u8],
-    k: usize,
     labels: &Labels,
     front: u64,
     j: Position,
     i: Position,
     mine: Profile,
-) -> Vertex
-    requires { Positioned ordering.now k j.0 i.0 × (mine ≡ profile_of (search_of labels.now.kind.0) mine.label) }
-    ensures { result.0 ≡ last_of (search_of labels.now.kind.0) labels.now.words front i.0 mine.label ordering.now j.0 k }
+) -> Option<Vertex>
+    requires { Positioned ordering.now (length ordering.now) j.0 i.0 × (mine ≡ profile_of (search_of labels.now.kind.0) mine.label) }
+    ensures { MatchOption result (last_of (search_of labels.now.kind.0) labels.now.words front i.0 mine.label ordering.now j.0 (length ordering.now) ≡ 64)
+        (λ c. c.0 ≡ last_of (search_of labels.now.kind.0) labels.now.words front i.0 mine.label ordering.now j.0 (length ordering.now)) }
 {
-    let position = first_by_position(ordering, k, labels, front, j, i, mine);
-    let found = position.0 < k;
-    if found {
-        return vertex_at(ordering, position);
+    match first_by_position(ordering, labels, front, j, i, mine) {
+        Some(position) => Some(vertex_at(ordering, position)),
+        None => first_by_number(labels, front, i, mine),
     }
-    first_by_number(labels, front, i, mine)
 }
 
-// The first position of a vertex that starts a violation with the vertex at position `j`; `j` where there is none.
+// The first position of a vertex that starts a violation with the vertex at position `j`.
 fn first_first<G: Graph>(
     graph: G,
     ordering: &[u8],
-    k: usize,
     labels: &Labels,
     free: u64,
     j: Position,
-) -> Position
-    requires { Searchable (search_of labels.now.kind.0) (G.rows graph) ordering.now k labels.now.words labels.now.weights free j.0 }
-    ensures { result.0 ≡ first_below j.0 (first_in (search_of labels.now.kind.0) (G.rows graph) ordering.now labels.now.words free j.0 k) }
+) -> Option<Position>
+    requires { Searchable (search_of labels.now.kind.0) (G.rows graph) ordering.now (length ordering.now) labels.now.words labels.now.weights free j.0 }
+    ensures { MatchOption result
+        (first_below j.0 (first_in (search_of labels.now.kind.0) (G.rows graph) ordering.now labels.now.words free j.0 (length ordering.now)) ≡ j.0)
+        (λ i. (i.0 ≡ first_below j.0 (first_in (search_of labels.now.kind.0) (G.rows graph) ordering.now labels.now.words free j.0 (length ordering.now)))
+        × (i.0 < j.0)) }
 {
     let b = vertex_at(ordering, j);
     let mine = labels.profile(b);
     for i in 0..j.0 {
         let a = vertex_at(ordering, Position(i));
         let front = front_of(graph, free, a, b);
-        let c = first_by_number(labels, front, Position(i), mine);
-        if c.0 < 64 {
-            return Position(i);
+        if first_by_number(labels, front, Position(i), mine).is_some() {
+            return Some(Position(i));
         }
     }
-    j
+    None
 }
 
 // The first violation with the vertex at position `j`, which has one. `labels` and `free` are those of its turn.
 pub fn first_violation<G: Graph>(
     graph: G,
     ordering: &[u8],
-    k: usize,
     labels: &Labels,
     free: u64,
     j: Position,
 ) -> Violation<Vertex>
-    requires { Searchable (search_of labels.now.kind.0) (G.rows graph) ordering.now k labels.now.words labels.now.weights free j.0
-        × T (any_below j.0 (first_in (search_of labels.now.kind.0) (G.rows graph) ordering.now labels.now.words free j.0 k)) }
+    requires { Searchable (search_of labels.now.kind.0) (G.rows graph) ordering.now (length ordering.now) labels.now.words labels.now.weights free j.0
+        × T (any_below j.0 (first_in (search_of labels.now.kind.0) (G.rows graph) ordering.now labels.now.words free j.0 (length ordering.now))) }
     ensures { verdict_of (Ok (Judgement.Fails result))
-        ≡ first_fault (search_of labels.now.kind.0) (G.rows graph) ordering.now labels.now.words free j.0 k }
+        ≡ first_fault (search_of labels.now.kind.0) (G.rows graph) ordering.now labels.now.words free j.0 (length ordering.now) }
 {
-    let i = first_first(graph, ordering, k, labels, free, j);
+    let Some(i) = first_first(graph, ordering, labels, free, j) else {
+        unreachable!()
+    };
     let a = vertex_at(ordering, i);
     let b = vertex_at(ordering, j);
     let front = front_of(graph, free, a, b);
     let mine = labels.profile(b);
-    let c = first_last(ordering, k, labels, front, j, i, mine);
+    let Some(c) = first_last(ordering, labels, front, j, i, mine) else {
+        unreachable!()
+    };
     Violation { a, b, c }
 }

@@ -1,11 +1,11 @@
 // One call, and its line.
 ghost use Rattle.std.specs.Prelude.{◌≤◌};
 
-use notation::{number, put, show, show_answer, show_list};
+use notation::{put, show, show_answer, show_list};
 use searches::{Mark, Vertex};
 
 fn play(mark: Mark, rows: &[u64], ordering: &[u8], vertex: u8, output: &mut [u8]) {
-    io::print_decimal(1, number(mark));
+    io::print_decimal(1, mark as u64);
     show(rows.len() as u64);
     show(ordering.len() as u64);
     show(u64::from(vertex));
@@ -22,19 +22,4 @@ pub fn trace(mark: Mark, rows: &[u64], ordering: &[u8], vertex: u8, room: usize)
 {
     let mut output = notation::fresh();
     play(mark, rows, ordering, vertex, &mut output[..room]);
-}
-
-// The same on the first n rows, with the first k places.
-pub fn trace_on(
-    mark: Mark,
-    rows: [u64; 64],
-    n: usize,
-    places: [u8; 64],
-    k: usize,
-    vertex: u8,
-    room: usize,
-)
-    requires { (n ≤ 64) × (k ≤ 64) × (room ≤ 66) }
-{
-    trace(mark, &rows[..n], &places[..k], vertex, room);
 }

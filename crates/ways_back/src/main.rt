@@ -11,7 +11,7 @@ mod lines;
 
 ghost use Rattle.std.specs.Prelude.{◌≤◌};
 
-use crate::lines::trace_on;
+use crate::lines::trace;
 use notation::{places_of, rows_of};
 use searches::Mark;
 
@@ -84,24 +84,16 @@ const BRANCHES_FROM_0: u64 = 0x04123_000;
 
 const BRANCHES_FROM_1: u64 = 0x12340_000;
 
-// One call with an output list of `room` bytes.
-fn trace(mark: Mark, plan: u64, n: usize, walk: u64, k: usize, vertex: u8, room: usize)
-    requires { (n ≤ 64) × (k ≤ 64) × (room ≤ 66) }
-{
-    trace_on(mark, rows_of(plan), n, places_of(walk), k, vertex, room);
-}
-
 // To each point of a plan of at most six, and to one or more that it does not have.
 fn traced(mark: Mark, plan: u64, n: usize, walk: u64, k: usize, room: usize)
     requires { (n ≤ 64) × (k ≤ 64) × (room ≤ 66) }
 {
-    trace(mark, plan, n, walk, k, 0, room);
-    trace(mark, plan, n, walk, k, 1, room);
-    trace(mark, plan, n, walk, k, 2, room);
-    trace(mark, plan, n, walk, k, 3, room);
-    trace(mark, plan, n, walk, k, 4, room);
-    trace(mark, plan, n, walk, k, 5, room);
-    trace(mark, plan, n, walk, k, 255, room);
+    let rows = rows_of(plan);
+    let places = places_of(walk);
+    for vertex in 0u8..6 {
+        trace(mark, &rows[..n], &places[..k], vertex, room);
+    }
+    trace(mark, &rows[..n], &places[..k], 255, room);
 }
 
 fn on_the_tree(mark: Mark) {
@@ -168,7 +160,9 @@ fn leading_back(mark: Mark) {
 fn trace_few(mark: Mark, n: usize, k: usize, vertex: u8, room: usize)
     requires { (n ≤ 64) × (k ≤ 64) × (room ≤ 66) }
 {
-    trace(mark, 0, n, 0, k, vertex, room);
+    let rows = rows_of(0);
+    let places = places_of(0);
+    trace(mark, &rows[..n], &places[..k], vertex, room);
 }
 
 // One point, placed and not, and no points at all.
@@ -187,7 +181,9 @@ fn smallest(mark: Mark) {
 fn wrong(mark: Mark, plan: u64, walk: u64, k: usize)
     requires { k ≤ 64 }
 {
-    trace(mark, plan, 4, walk, k, 77, 3);
+    let rows = rows_of(plan);
+    let places = places_of(walk);
+    trace(mark, &rows[..4], &places[..k], 77, 3);
 }
 
 // Refused by judge's own tests: each call is given everything wrong that is tried after what it is refused for. Three plans are the tree with another
@@ -195,7 +191,7 @@ fn wrong(mark: Mark, plan: u64, walk: u64, k: usize)
 fn refused_walks(mark: Mark) {
     let crowd = [1u64; 65];
     let crowded = [99u8; 66];
-    lines::trace(mark, &crowd, &crowded, 77, 64);
+    trace(mark, &crowd, &crowded, 77, 64);
     wrong(mark, 0x13090102_00000000, 0x99999_000, 5);
     wrong(mark, 0x03090102_00000000, 0x99999_000, 5);
     wrong(mark, 0x02090102_00000000, 0x99999_000, 5);
@@ -208,7 +204,9 @@ fn refused_walks(mark: Mark) {
 fn from_one(mark: Mark, k: usize, vertex: u8, room: usize)
     requires { (k ≤ 64) × (room ≤ 66) }
 {
-    trace(mark, TREE, 4, 0x12_000000, k, vertex, room);
+    let rows = rows_of(TREE);
+    let places = places_of(0x12_000000);
+    trace(mark, &rows[..4], &places[..k], vertex, room);
 }
 
 // Refused with 21, 22 and 10 likewise. Then with nothing wrong.

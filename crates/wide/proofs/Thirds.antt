@@ -3,6 +3,7 @@
 --   thirds_passed                 so the search by position may start behind j
 --   third_by_position             the first by position is the first candidate
 --   third_by_number               where there is none by position, the first by number is it
+--   number_there                  and there is one by number
 -- Assumes nothing.
 use mathlib.Core.Path.{◌≡◌, refl, sym, ap, ◌∙◌, subst}
 use mathlib.Core.Logic.{◌⊎◌, inl, inr}
@@ -11,14 +12,14 @@ use mathlib.Core.List.{List}
 use Prim.Native.Nat.{ℕ, suc, ◌+◌, ◌-◌, ◌≤◌, ◌<◌}
 use native.Mathlib.Omega.{arith}
 use lib.Dec.{T}
-use Rattle.bitset.specs.Below.{first_below}
+use Rattle.bitset.specs.Below.{any_below, first_below}
 use Rattle.bitset.proofs.Tests.{below_or}
-use Rattle.bitset.proofs.Below.{IsFirst, first, first_unique}
+use Rattle.bitset.proofs.Below.{IsFirst, first, first_unique, any_out, any_at}
 use Rattle.bitset.proofs.Passed.{Passed}
 use Rattle.searches.specs.Kind.{Search}
 use Rattle.searches.specs.Ordering.{at}
 use Rattle.searches.specs.Table.{arcs_wide}
-use Rattle.searches.specs.Violation.{violates, third, is_last}
+use Rattle.searches.specs.Violation.{violates, third, is_last, is_first}
 use Rattle.searches.proofs.Ordering.{placed_in}
 use Rattle.searches.proofs.Judge.{third_placed, third_other}
 use Rattle.searches.proofs.Violations.{violates_out}
@@ -81,3 +82,12 @@ module _ (s : Search) (arc : ℕ → ℕ → Bool) (n : ℕ) (w : List ℕ) (k j
         go : (e : ℕ) → e < k + c → T (is_last s arc n w k j i e) → (e < k) ⊎ (k ≤ e) → ⊥
         go e h t (inl b) = none_before e (omega arith) t
         go e h t (inr b) = under.least (e - k) (omega arith) (subst (λ (b : Bool). T b) (last_other e (e - k) (omega arith)) t)
+
+    -- where i starts a violation and none is found by position, there is one by number
+    pub number_there : k ≤ p → T (is_first s arc n w k j i) → T (any_below n third_is)
+    unfolding is_first
+    number_there l t = let x = any_out (k + n) (is_last s arc n w k j i) t in go x.at x.below x.holds (below_or x.at k)
+      where
+        go : (e : ℕ) → e < k + n → T (is_last s arc n w k j i e) → (e < k) ⊎ (k ≤ e) → T (any_below n third_is)
+        go e h t (inl b) = absurd (none_before e (omega arith) t)
+        go e h t (inr b) = any_at n third_is (e - k) (omega arith) (subst (λ (b : Bool). T b) (last_other e (e - k) (omega arith)) t)

@@ -1,6 +1,6 @@
 // The choice by a tie-break: of the offered vertices, the one that stands last in it.
 ghost use Rattle.std.specs.Prelude.{◌≡◌, Bool, ◌||◌, ℕ, ◌≤◌, ◌<◌, T, eqb, length};
-ghost use Rattle.bitset.specs.Below.{first_below};
+ghost use Rattle.bitset.specs.Below.{found_below};
 ghost use Rattle.searches.specs.Kind.{search_of};
 ghost use Rattle.searches.specs.Ordering.{at};
 ghost use Rattle.tables.specs.Rows.{in_set, in_word};
@@ -42,17 +42,17 @@ fn front_of(sets: &Sets) -> [u64; 8]
     if some { front } else { all }
 }
 
-// The smallest vertex of the set; 512 where it is empty.
-fn first_of(set: &[u64; 8]) -> usize
-    ensures { result ≡ first_below 512 (in_set set.now) }
+// The smallest vertex of the set, where it has one.
+fn first_of(set: &[u64; 8]) -> Option<usize>
+    ensures { result ≡ found_below 512 (in_set set.now) }
 {
     for (i, word) in set.iter().enumerate() {
         let q = bitset::smallest(*word);
         if q < 64 {
-            return 64 * i + q;
+            return Some(64 * i + q);
         }
     }
-    512
+    None
 }
 
 // Of two vertices the one that leads: `next` where it is ahead, or level and behind `lead` in the tie-break.
@@ -131,7 +131,7 @@ pub fn choose(labels: &Labels, sets: &Sets, tie_break: &[u16], ranks: &[u16; 512
     }
     if labels.kind != Kind::MNS {
         let front = front_of(sets);
-        let first = first_of(&front) as u16;
+        let first = first_of(&front).unwrap() as u16;
         return lead_of(labels, ranks, &front, WideVertex(first));
     }
     for q in (0..tie_break.len()).rev() {

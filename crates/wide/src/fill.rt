@@ -33,6 +33,7 @@ pub fn fill(
     let mut ranks = [0u16; 512];
     rank(tie_break, &mut ranks);
     let count = graph.n - k;
+    // The index is a position too, at which the chosen vertex is placed.
     for i in 0..count {
         let v = choose(labels, sets, tie_break, &ranks);
         tail[i] = v.0;

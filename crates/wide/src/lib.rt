@@ -20,6 +20,7 @@ ghost use Rattle.searches.specs.CarryOn.{carry_on};
 ghost use Rattle.searches.specs.Answer.{is_pass, refusal_of};
 ghost use Rattle.searches.specs.Wide.{judge_wide, carry_on_wide, output_wide, wide_verdict_of};
 
+use crate::fault::Turn;
 use crate::kept::{Graph, Labels, Sets};
 use searches::{Judgement, Kind, Mark, Position, Refusal, WideVertex};
 
@@ -57,14 +58,15 @@ fn verdict(kind: Kind, graph: &Graph, ordering: &[u16]) -> Judgement<WideVertex>
     let k = ordering.len();
     let j = replay::replay(graph, ordering, k, &mut labels, &mut sets);
     if j < k {
-        return Judgement::Fails(fault::first_violation(
-            graph,
+        let turn = Turn {
+            graph: *graph,
             ordering,
             k,
-            &labels,
-            &sets.free,
-            Position(j),
-        ));
+            labels: &labels,
+            free: &sets.free,
+            j: Position(j),
+        };
+        return Judgement::Fails(turn.first_violation());
     }
     Judgement::Passes
 }

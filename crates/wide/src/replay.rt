@@ -40,6 +40,7 @@ pub fn replay(
         labels.new.words labels.new.smallest labels.new.largest labels.new.weights
         sets.new.placed sets.new.free sets.new.reached }
 {
+    // The index is a position, at which the vertex is placed, and it is answered.
     for j in 0..k {
         let b = vertex_at(ordering, Position(j));
         if is_beaten(labels, sets, b) {

@@ -3,15 +3,12 @@ ghost use Rattle.std.specs.Prelude.{◌≤◌};
 
 use notation::{put, show, show_bar};
 use searches::{Judgement, Kind, Mark, Refusal, Violation, WideVertex};
-
-fn entry(vertex: u16) -> u64 {
-    vertex as u64
-}
+use std::array;
 
 // Prints the points of a list.
 fn show_points(list: &[u16]) {
     for point in list {
-        show(entry(*point));
+        show(u64::from(*point));
     }
 }
 
@@ -24,9 +21,9 @@ fn show_refusal(refusal: Refusal) {
 fn show_triple(violation: Violation<WideVertex>) {
     put(b' ');
     put(b'f');
-    show(entry(violation.a.0));
-    show(entry(violation.b.0));
-    show(entry(violation.c.0));
+    show(u64::from(violation.a.0));
+    show(u64::from(violation.b.0));
+    show(u64::from(violation.c.0));
 }
 
 fn show_letter(letter: u8) {
@@ -60,7 +57,7 @@ pub fn show_plan(
     words: usize,
 ) {
     put(b'p');
-    show(notation::number(mark));
+    show(mark as u64);
     show(n as u64);
     show(chance);
     show(u64::from(pieces));
@@ -89,16 +86,13 @@ pub fn say_judge(kind: u8, mark: Mark, table: &[u64], walk: [u16; 520], n: usize
 
 // An output list before a call: the start at its front, and 1000 + p at every other place p.
 fn fresh(start: &[u16]) -> [u16; 520] {
-    let mut list = [0u16; 520];
-    for p in 0..520 {
-        list[p] = 1000 + p as u16;
-    }
-    for (p, point) in start.iter().enumerate() {
-        if p < 520 {
-            list[p] = *point;
+    array::from_fn(|p| {
+        if p < start.len() {
+            start[p]
+        } else {
+            1000 + p as u16
         }
-    }
-    list
+    })
 }
 
 fn call(kind: u8, mark: Mark, table: &[u64], tie_break: &[u16], output: &mut [u16], k: usize) {

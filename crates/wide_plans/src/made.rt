@@ -56,10 +56,8 @@ pub fn table_of(mark: Mark, n: usize, chance: u64, pieces: u8, seed: u64) -> [u6
     requires { n ≤ 513 }
 {
     let mut table = [0u64; 4105];
-    for u in 0..n {
-        for i in 0..8 {
-            table[8 * u + i] = word(mark, n, chance, pieces, seed, u, i);
-        }
+    for (p, entry) in table[..8 * n].iter_mut().enumerate() {
+        *entry = word(mark, n, chance, pieces, seed, p / 8, p % 8);
     }
     table
 }
@@ -91,8 +89,8 @@ pub fn stepped(n: usize, first: usize, step: usize) -> [u16; 520]
 {
     let mut order = [0u16; 520];
     let mut reached = first;
-    for q in 0..n {
-        order[q] = (reached % n) as u16;
+    for point in order[..n].iter_mut() {
+        *point = (reached % n) as u16;
         reached = reached + step;
     }
     order

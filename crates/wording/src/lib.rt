@@ -52,6 +52,7 @@ fn write_sentence(kind: Kind, judgement: Judgement<Vertex>, output: &mut [u8]) -
     }
 }
 
+// Writes the sentence for a pass.
 fn write_pass(kind: Kind, output: &mut [u8]) -> usize
     requires { (kind.0 < 7) × (96 ≤ length output.old) }
     ensures output { output.new ≡ sets output.old 0 (sentence (search_of kind.0) passes) }
@@ -61,6 +62,7 @@ fn write_pass(kind: Kind, output: &mut [u8]) -> usize
     put(output, name, b" passes.")
 }
 
+// Writes the sentence for a failure, with its violation.
 fn write_failure(kind: Kind, violation: Violation<Vertex>, output: &mut [u8]) -> usize
     requires { (kind.0 < 7) × (96 ≤ length output.old) }
     ensures output { output.new ≡ sets output.old 0 (sentence (search_of kind.0) (fails violation.a.0 violation.b.0 violation.c.0)) }

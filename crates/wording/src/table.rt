@@ -7,7 +7,7 @@ ghost use Rattle.wording.specs.Sentence.{name};
 use crate::write::put;
 use searches::Kind;
 
-// A row of bytes for each kind. Behind a name its row is 0.
+// A row of bytes for each kind. Behind a name its row is 0. A constant table of rows, with their lengths beside it, is a form that the requirements name.
 const NAMES: [[u8; 7]; 7] = [
     [b'G', b'e', b'n', b'e', b'r', b'i', b'c'],
     [b'B', b'F', b'S', 0, 0, 0, 0],

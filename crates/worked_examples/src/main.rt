@@ -6,26 +6,11 @@
 use notation::show;
 use searches::{Judgement, Kind, Mark, Refusal, Vertex};
 
-// 2 for more than 64 rows; no other refusal comes here.
-fn number(refusal: Refusal) -> u64 {
-    match refusal {
-        Refusal::TooManyVertices => 2,
-        _ => 98,
-    }
-}
-
 fn verdict(judgement: Result<Judgement<Vertex>, Refusal>) -> u64 {
     match judgement {
         Ok(Judgement::Passes) => 0,
         Ok(Judgement::Fails(_)) => 99,
-        Err(refusal) => number(refusal),
-    }
-}
-
-fn answer(outcome: Result<(), Refusal>) -> u64 {
-    match outcome {
-        Ok(()) => 0,
-        Err(refusal) => number(refusal),
+        Err(refusal) => refusal as u64,
     }
 }
 
@@ -36,7 +21,8 @@ fn judge(kind: u8, rows: &[u64], walk: &[u8]) {
 // Carries on from the end of a walk of 64 points.
 fn carry_on(kind: u8, rows: &[u64], walk: &[u8]) {
     let mut output = notation::all_points();
-    show(answer(engine::carry_on(Kind(kind), Mark::TwoWay, rows, 0, walk, &mut output, 64)));
+    let carried = engine::carry_on(Kind(kind), Mark::TwoWay, rows, 0, walk, &mut output, 64);
+    show(notation::outcome(carried));
     show(check::same(&output, walk) as u64);
 }
 
@@ -54,11 +40,7 @@ fn line(kind: u8) {
 }
 
 fn main() {
-    line(0);
-    line(1);
-    line(2);
-    line(3);
-    line(4);
-    line(5);
-    line(6);
+    for kind in 0u8..7 {
+        line(kind);
+    }
 }

@@ -73,8 +73,8 @@ returns-then-length-ne0 c =
     refused (tests (goal.at.returns-then-length-ne0 c).Start) 2
     (inr (known (goal.at.returns-then-length-ne0 c).Else-kind, inl (refl, wrong_size table (grind arith))))
 
-pub bit_outside-requires : goal.bit_outside-requires
-bit_outside-requires c = is_table (table_of (goal.at.bit_outside-requires c).Start) (omega arith) (omega arith)
+pub invariant_of-table : goal.invariant_of-table
+invariant_of-table c = record { sized = is_table (table_of (goal.at.invariant_of-table c).Start) (omega arith) (omega arith) }
 
 pub returns-then-bit_outside : goal.returns-then-bit_outside
 unfolding open_tests_wide number refusal_of
@@ -82,9 +82,6 @@ returns-then-bit_outside c =
     let table = table_of (goal.at.returns-then-bit_outside c).Start in
     refused (tests (goal.at.returns-then-bit_outside c).Start) 3
     (inr (known (goal.at.returns-then-bit_outside c).Else-kind, inr (sized table (omega arith) (omega arith), inl (refl, said_true (bit_outside_wide 8 table) (c.bit_outside.ensures ∙ sym (outside_table table)) c.if-bit_outside.true))))
-
-pub self_loop-requires : goal.self_loop-requires
-self_loop-requires c = is_table (table_of (goal.at.self_loop-requires c).Start) (omega arith) (omega arith)
 
 pub returns-then-self_loop : goal.returns-then-self_loop
 unfolding open_tests_wide number refusal_of
@@ -100,8 +97,7 @@ returns-in-OneWay c =
     accepted_behind (take 4 all) (drop 4 all) (passed_4 (goal.at.returns-in-OneWay c).Else-self_loop) (five_dropped _ _ c.in-OneWay.is, tt)
 
 pub one_way-requires : goal.one_way-requires
-one_way-requires c =
-    (is_table (table_of (goal.at.one_way-requires c).Start) (omega arith) (omega arith), sym c.bit_outside.ensures ∙ c.if-bit_outside.false)
+one_way-requires c = sym c.bit_outside.ensures ∙ c.if-bit_outside.false
 
 pub returns-then-one_way : goal.returns-then-one_way
 unfolding open_tests_wide number refusal_of

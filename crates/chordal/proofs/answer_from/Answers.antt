@@ -2,34 +2,23 @@
 -- Assumes nothing.
 use mathlib.Core.Path.{sym}
 use native.Mathlib.Omega.{arith}
-use Rattle.searches.specs.Ordering.{arcs}
-use Rattle.bitset.proofs.Below.{first}
-use Rattle.chordal.specs.Descent.{is_middle, first_middle}
 use Rattle.chordal.specs.Answer.{answer_of}
 use Rattle.chordal.specs.Lists.{Descendable}
 use Rattle.chordal.proofs.Deciding.{gap_found, cycle_shown, order_shown}
 use Rattle.chordal.proofs.answer_from.Goals as goal
-use Rattle.chordal.proofs.answer_from.Goals.{After-first_low-low}
-
-pub first_low-low-requires : goal.first_low-low-requires
-unfolding first_middle
-first_low-low-requires c =
-    let l = c.in-Some.top.0 in (
-      omega (arith, c.in-Some.ensures.1, c.requires.0.all.long),
-      omega (arith, c.first_middle-middle.ensures, (first l (is_middle (arcs c.args.rows.now) c.args.ordering.now l)).within),
-    )
+use Rattle.chordal.proofs.answer_from.Goals.{In-Some}
 
 -- the three positions are a gap
-found : (c : After-first_low-low)
+found : (c : In-Some)
     → let a = c.args in
-    Descendable a.rows.now a.ordering.now a.output.now c.first_low-low.result.0 c.first_middle-middle.result.0
-    c.in-Some.top.0
+    let g = c.in-Some.gap in
+    Descendable a.rows.now a.ordering.now a.output.now g.low.0 g.middle.0 g.top.0
 found c =
-    gap_found _ _ _ c.requires.0 c.requires.1 c.in-Some.ensures.0 c.in-Some.ensures.1 c.first_middle-middle.ensures
-    c.first_low-low.ensures
+    let x = c.in-Some.ensures in
+    gap_found _ _ _ c.requires.0 c.requires.1 x.0 x.1 x.2 x.3
 
 pub write_cycle-requires : goal.write_cycle-requires
-write_cycle-requires c = found (goal.at.write_cycle-requires c).After-first_low-low
+write_cycle-requires c = found (goal.at.write_cycle-requires c).In-Some
 
 pub returns-in_default : goal.returns-in_default
 unfolding answer_of
@@ -37,4 +26,4 @@ returns-in_default c = order_shown _ _ _ c.requires.0 c.requires.1 (sym c.in_def
 
 pub returns : goal.returns
 unfolding answer_of
-returns c = cycle_shown _ _ _ c.requires.0 c.requires.1 (found (goal.at.returns c).After-first_low-low).gap c.write_cycle.ensures.length c.write_cycle.ensures.output
+returns c = cycle_shown _ _ _ c.requires.0 c.requires.1 (found (goal.at.returns c).In-Some).gap c.write_cycle.ensures.length c.write_cycle.ensures.output

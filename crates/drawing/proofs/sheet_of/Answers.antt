@@ -41,6 +41,6 @@ returns-in-Err c =
     let done = enough_room a.file.now a.output.now c.if-output-lt18159.false (refusal_sheet a.file.now c.in-Err.is c.import.ensures.answer) in
     let text : line (c.number.result ∷ []) ≡ line (number _ ∷ []) = ap (λ (x : ℕ). line (x ∷ [])) c.number.ensures in
     record {
-      output = c.line_of_one.ensures.output ∙ ap (λ (x : List ℕ). sets a.output.now 0 x) text ∙ done.0;
-      length = c.line_of_one.ensures.at ∙ line_long _ ∙ done.1;
+      output = c.line_of.ensures.output ∙ ap (λ (x : List ℕ). sets a.output.now 0 x) text ∙ done.0;
+      length = c.line_of.ensures.at ∙ line_long _ ∙ done.1;
     }

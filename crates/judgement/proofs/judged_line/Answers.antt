@@ -21,7 +21,7 @@ Answer = Result (Judgement Vertex) Refusal
 pub returns-in-Ok-Passes : goal.returns-in-Ok-Passes
 unfolding judged_line verdict_of line fields field
 returns-in-Ok-Passes c =
-    let e = c.line_of_two.ensures in
+    let e = c.line_of.ensures in
     let a = c.args in
     let is : a.judgement ≡ Ok Judgement.Passes = c.in-Ok-Passes.is ∙ ap Ok (rw c.in-Ok-Passes.is at c.in-Ok-Passes.field-0-is) in
     record {
@@ -32,7 +32,7 @@ returns-in-Ok-Passes c =
 pub returns-in-Ok-Fails : goal.returns-in-Ok-Fails
 unfolding judged_line verdict_of line fields field
 returns-in-Ok-Fails c =
-    let e = c.line_of_five.ensures in
+    let e = c.line_of-in-Ok-Fails.ensures in
     let a = c.args in
     let is : a.judgement ≡ Ok (Judgement.Fails c.in-Ok-Fails.v) = c.in-Ok-Fails.is ∙ ap Ok (rw c.in-Ok-Fails.is at c.in-Ok-Fails.field-0-is) in
     record {
@@ -43,7 +43,7 @@ returns-in-Ok-Fails c =
 pub returns-in-Err : goal.returns-in-Err
 unfolding judged_line verdict_of line fields field number
 returns-in-Err c =
-    let e = c.line_of_one.ensures in
+    let e = c.line_of-in-Err.ensures in
     let a = c.args in
     let is = c.in-Err.is in
     record {

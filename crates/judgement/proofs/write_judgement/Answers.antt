@@ -7,7 +7,6 @@ use Prim.Native.Nat.{ℕ, ◌≤◌}
 use native.Mathlib.Omega.{arith}
 use lib.ListN.{length, take}
 use lib.Seq.{sets, length-take-le}
-use Rattle.searches.specs.Answer.{number}
 use Rattle.sheet.specs.Answer.{refusal_in, line_in}
 use Rattle.sheet.specs.declared.read.Held.{Held}
 use Rattle.fields.specs.Field.{field}
@@ -27,8 +26,8 @@ returns-in-Err c =
     let out = c.args.output.now in
     let told = c.in-Err.ensures.answer in
     record {
-      output = c.line_of_one-length.ensures.output ∙ ap (λ (x : ℕ). sets out 0 (line (x ∷ []))) c.number-number.ensures ∙ ap (λ (x : Option ℕ). sets out 0 (judged_unless x b)) told;
-      length = c.line_of_one-length.ensures.at ∙ ap (λ (x : Option ℕ). length (judged_unless x b)) told;
+      output = c.line_of-length.ensures.output ∙ ap (λ (x : ℕ). sets out 0 (line (x ∷ []))) c.number-number.ensures ∙ ap (λ (x : Option ℕ). sets out 0 (judged_unless x b)) told;
+      length = c.line_of-length.ensures.at ∙ ap (λ (x : Option ℕ). length (judged_unless x b)) told;
       line = c.in-Err.ensures.line;
     }
 

@@ -3,7 +3,7 @@
 -- Assumes nothing.
 use mathlib.Core.Path.{◌≡◌, refl, ap, ◌∙◌}
 use mathlib.Core.Bool.{Bool, true, not}
-use mathlib.Core.List.{List, ◌++◌}
+use mathlib.Core.List.{List}
 use Prim.Native.Nat.{ℕ, ◌≤◌, ◌<◌}
 use native.Mathlib.Omega.{arith}
 use Rattle.std.proofs.Common.{rules}
@@ -12,27 +12,16 @@ use lib.ListN.{drop, length}
 use Rattle.std.specs.Prelude.{Ok}
 use Rattle.std.proofs.lemmas.Result.{err_from_is_err_and}
 use Rattle.searches.specs.Kind.{bfs, kind_of, search_of}
-use Rattle.searches.specs.Ordering.{arcs}
-use Rattle.searches.specs.Violation.{judge}
-use Rattle.searches.specs.Answer.{is_pass, judge_tests, judge_answer, number, refusal_of, verdict_of}
-use Rattle.searches.specs.declared.Mark.{Mark}
+use Rattle.searches.specs.Answer.{is_pass, number, refusal_of, verdict_of}
 use Rattle.searches.specs.declared.Vertex.{Vertex}
 use Rattle.searches.specs.declared.Judgement.{Judgement}
 use Rattle.searches.proofs.NothingBarred.{judge_none}
-use Rattle.checks.proofs.AfterJudge.{judged_refused, passed_decided, failed_decided}
+use Rattle.checks.proofs.AfterJudge.{judged_refused, decided}
 use Rattle.checks.proofs.Tried.{Tried, tried_one, refused_here, accepted_here}
 use Rattle.route.specs.WayBack.{tests_after_bfs, way_tests, position_of}
 use Rattle.route.proofs.Standing.{found_placed, unfound_absent}
 use Rattle.route.proofs.position_to_trace.Goals as goal
 use Rattle.route.proofs.position_to_trace.Goals.{In_ok-judgement, in-Passes, in_default}
-
--- where judge gives a verdict, the tests behind its own answer for all
-decided : (kind : ℕ) (mark : Mark) (rows w : List ℕ) (later : Bool → List (ℕ × Bool)) (j : Judgement Vertex)
-    → verdict_of (Ok j) ≡ judge_answer kind mark rows w
-    → Tried (judge_tests kind mark rows w ++ later (is_pass (judge (search_of kind) (arcs rows) (length rows) w (length w)))) (later (is_pass (verdict_of (Ok j))))
-unfolding verdict_of
-decided kind mark rows w later Judgement.Passes e = record { same = passed_decided kind mark rows w later e }
-decided kind mark rows w later (Judgement.Fails v) e = record { same = failed_decided kind mark rows w later e }
 
 abbrev own : In_ok-judgement → List (ℕ × Bool)
 own c = let a = c.args in tests_after_bfs (length a.rows.now) a.ordering.now a.vertex.0 a.room (is_pass (verdict_of (Ok c.in_ok-judgement.judgement)))

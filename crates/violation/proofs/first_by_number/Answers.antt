@@ -56,8 +56,11 @@ answered c =
 pub returns-then-is_unexcused : goal.returns-then-is_unexcused
 returns-then-is_unexcused c =
     let a = c.args in
-    scanned_first (search_of a.labels.now.kind.0) a.labels.now.words a.front a.i.0 a.mine.label c.loop-rest.invariant c.smallest-number.ensures (found (goal.at.returns-then-is_unexcused c).After-smallest-number).0 (found (goal.at.returns-then-is_unexcused c).After-smallest-number).1
-    (said_true _ (answered (goal.at.returns-then-is_unexcused c).After-is_unexcused) c.if-is_unexcused.true)
+    let there = found (goal.at.returns-then-is_unexcused c).After-smallest-number in (
+      scanned_first (search_of a.labels.now.kind.0) a.labels.now.words a.front a.i.0 a.mine.label c.loop-rest.invariant c.smallest-number.ensures there.0 there.1
+          (said_true _ (answered (goal.at.returns-then-is_unexcused c).After-is_unexcused) c.if-is_unexcused.true),
+      there.0,
+    )
 
 pub loop-rest-smaller : goal.loop-rest-smaller
 loop-rest-smaller c =
@@ -71,4 +74,4 @@ loop-rest-preserved c =
 pub returns : goal.returns
 returns c =
     let a = c.args in
-    scanned_none (search_of a.labels.now.kind.0) a.labels.now.words a.front a.i.0 a.mine.label c.loop-rest.invariant c.loop-rest-test.false
+    sym (scanned_none (search_of a.labels.now.kind.0) a.labels.now.words a.front a.i.0 a.mine.label c.loop-rest.invariant c.loop-rest-test.false)

@@ -13,10 +13,12 @@ use Rattle.wide.proofs.verdict.Goals as goal
 pub invariant_of-labels : goal.invariant_of-labels
 invariant_of-labels c = record { stored = stored_start _ refl refl refl refl }
 
+pub invariant_of-turn : goal.invariant_of-turn
+invariant_of-turn c =
+    record { faulty = rw c.replay-j.ensures.kind (faulty_staged c.args.graph.now.valid c.requires c.if-j-k.true c.replay-j.ensures.staged) }
+
 pub first_violation-requires : goal.first_violation-requires
-first_violation-requires c =
-    rw c.replay-j.ensures.kind
-    (faulty_staged c.args.graph.now.valid c.requires c.if-j-k.true c.replay-j.ensures.staged, c.replay-j.ensures.count)
+first_violation-requires c = rw c.replay-j.ensures.kind c.replay-j.ensures.count
 
 pub returns-then-j-k : goal.returns-then-j-k
 returns-then-j-k c = rw c.replay-j.ensures.kind at c.first_violation.ensures

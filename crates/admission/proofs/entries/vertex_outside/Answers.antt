@@ -1,26 +1,18 @@
--- `admission::entries::vertex_outside` meets its contract: no entry that was passed is n or more.
+-- `admission::entries::vertex_outside` meets its contract: `any` over the first entries is any_below.
 -- Assumes nothing.
-use mathlib.Core.Path.{sym}
-use borrow.Author.Tests.{le-leb, lt-leb}
+use mathlib.Core.Path.{◌∙◌}
+use lib.Dec.{leb}
+use lib.ListN.{take}
+use borrow.Author.Tests.{tests}
+use Rattle.std.proofs.Common.{rules}
+use Rattle.std.proofs.lemmas.Iterator.{YieldsList-from_slice}
+use Rattle.std.proofs.lemmas.Iterator.Search.{any_from_yields_List}
+use Rattle.bitset.proofs.Chains.{first_any}
 use Rattle.searches.specs.Answer.{vertex_outside}
-use Rattle.bitset.proofs.Passed.{passed_start, passed_more, any_found, any_unfound}
-use Rattle.admission.proofs.Front.{front_entry, front_whole}
 use Rattle.admission.proofs.entries.vertex_outside.Goals as goal
-
-pub loop-entry-init : goal.loop-entry-init
-loop-entry-init c = passed_start _ _
-
-pub returns-then-n-entry : goal.returns-then-n-entry
-unfolding vertex_outside
-returns-then-n-entry c =
-    let e = front_entry _ _ c.requires _ c.loop-entry-test.true in
-    any_found _ _ e.0 (rw (sym e.1) (le-leb _ _ c.if-n-entry.true))
-
-pub loop-entry-preserved : goal.loop-entry-preserved
-loop-entry-preserved c =
-    let e = front_entry _ _ c.requires _ c.loop-entry-test.true in
-    passed_more c.loop-entry.invariant e.0 (rw (sym e.1) (lt-leb _ _ c.if-n-entry.false))
 
 pub returns : goal.returns
 unfolding vertex_outside
-returns c = any_unfound c.loop-entry.invariant (front_whole _ _ c.requires _ c.loop-entry-test.false)
+returns c =
+    any_from_yields_List (leb c.args.n) _ _ _ c.any.ensures.ran (YieldsList-from_slice (take c.args.k c.args.list.now) cc) (λ v said _ call. search (rules, tests))
+    ∙ first_any (leb c.args.n) 0 c.args.k c.args.list.now c.requires

@@ -11,5 +11,5 @@ pub returns : goal.returns
 unfolding step opened
 returns c =
     let a = c.args in
-    let here : c.eq.result ≡ eqb a.to.0 a.low.0 = search rules in
-    ap₂ (λ (e : Bool) (rest : Bool × Bool). (e || (ltb a.low.0 a.to.0 && not rest.0)) && rest.1) here (ap₂ (λ (t h : Bool). (t, h)) c.joined-chord.ensures c.joined-here.ensures)
+    let here : c.eq.result ≡ eqb a.to.0 a.gap.low.0 = search rules in
+    ap₂ (λ (e : Bool) (rest : Bool × Bool). (e || (ltb a.gap.low.0 a.to.0 && not rest.0)) && rest.1) here (ap₂ (λ (t h : Bool). (t, h)) c.joined-chord.ensures c.joined-here.ensures)

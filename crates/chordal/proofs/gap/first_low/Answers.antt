@@ -1,6 +1,5 @@
 -- `chordal::gap::first_low` meets its contract: no position that was passed makes a gap.
 -- Assumes nothing.
-use Prim.Native.Nat.{◌-◌}
 use mathlib.Core.Path.{◌≡◌, sym, ap₂, ◌∙◌}
 use mathlib.Core.Bool.{Bool, not, ◌&&◌}
 use native.Mathlib.Omega.{arith}
@@ -35,7 +34,8 @@ asked c =
 
 pub returns-then-inner-outer : goal.returns-then-inner-outer
 unfolding first_low
-returns-then-inner-outer c = first_found c.loop-i.invariant (sym (asked (goal.at.returns-then-inner-outer c).After-joined-across) ∙ c.if-inner-outer.true)
+returns-then-inner-outer c =
+    (first_found c.loop-i.invariant (sym (asked (goal.at.returns-then-inner-outer c).After-joined-across) ∙ c.if-inner-outer.true), c.loop-i-test.true)
 
 pub loop-i-preserved : goal.loop-i-preserved
 loop-i-preserved c =
@@ -43,4 +43,4 @@ loop-i-preserved c =
 
 pub returns : goal.returns
 unfolding first_low
-returns c = first_unfound c.loop-i.invariant c.loop-i-test.false
+returns c = sym (first_unfound c.loop-i.invariant c.loop-i-test.false)

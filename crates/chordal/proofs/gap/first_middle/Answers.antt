@@ -1,6 +1,6 @@
 -- `chordal::gap::first_middle` meets its contract: no position that was passed is the middle one of a gap, and the set holds the vertices before.
 -- Assumes nothing.
-use Prim.Native.Nat.{ℕ, ◌+◌, ◌-◌, ◌<◌}
+use Prim.Native.Nat.{ℕ, ◌+◌, ◌<◌}
 use mathlib.Core.Path.{◌≡◌, sym, ap, ap₂, ◌∙◌, subst}
 use mathlib.Core.Bool.{Bool, not, ◌&&◌}
 use native.Mathlib.Omega.{arith}
@@ -41,7 +41,8 @@ asked c =
 
 pub returns-then-linked-filled : goal.returns-then-linked-filled
 unfolding first_middle
-returns-then-linked-filled c = first_found c.loop-j.invariant.0 (sym (asked (goal.at.returns-then-linked-filled c).After-subset-filled) ∙ c.if-linked-filled.true)
+returns-then-linked-filled c =
+    (first_found c.loop-j.invariant.0 (sym (asked (goal.at.returns-then-linked-filled c).After-subset-filled) ∙ c.if-linked-filled.true), c.loop-j-test.true)
 
 pub loop-j-preserved : goal.loop-j-preserved
 loop-j-preserved c =
@@ -56,4 +57,4 @@ loop-j-preserved c =
 
 pub returns : goal.returns
 unfolding first_middle
-returns c = first_unfound c.loop-j.invariant.0 c.loop-j-test.false
+returns c = sym (first_unfound c.loop-j.invariant.0 c.loop-j-test.false)

@@ -7,7 +7,7 @@ use Rattle.chordal.specs.Descent.{is_middle}
 use Rattle.chordal.proofs.gap.first_middle.Given as goal
 
 abbrev pub invariant-loop-j : goal.invariant-loop-j
-invariant-loop-j l = Passed l.top.0 (is_middle (arcs l.rows) l.ordering l.top.0) l.j × Seen l.ordering l.before l.j
+invariant-loop-j l = Passed l.fn.top.0 (is_middle (arcs l.rows) l.ordering l.fn.top.0) l.j × Seen l.ordering l.before l.j
 
 abbrev pub decreases-loop-j : goal.decreases-loop-j
 decreases-loop-j l = l.j-end - l.j

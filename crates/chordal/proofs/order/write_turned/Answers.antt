@@ -1,6 +1,5 @@
 -- `chordal::order::write_turned` meets its contract: each turn writes one vertex in front of those that were written.
 -- Assumes nothing.
-use Prim.Native.Nat.{◌-◌}
 use native.Mathlib.Omega.{arith}
 use Rattle.chordal.proofs.Listing.{turning_start, turning_next, turning_end}
 use Rattle.chordal.proofs.order.write_turned.Goals as goal

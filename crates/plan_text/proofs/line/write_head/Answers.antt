@@ -6,6 +6,8 @@ use Prim.Native.Nat.{ℕ, ◌+◌}
 use native.Mathlib.Omega.{arith}
 use lib.ListN.{length}
 use lib.Seq.{sets}
+use Rattle.fields.specs.Field.{field, fields, line}
+use Rattle.sheet.specs.Written.{first_line}
 use Rattle.wording.specs.Text.{bytes}
 use Rattle.edge_lines.specs.Writing.{problem_text}
 use Rattle.plan_text.specs.Text.{head_text}
@@ -25,10 +27,10 @@ unfolding head_text problem_text bytes
 put_pair-requires c =
     (c.requires.0, c.requires.1, omega (arith, c.requires.2, ap length (edges (goal.at.put_pair-requires c).In-Edges)))
 
-pub write_sheet_head-requires : goal.write_sheet_head-requires
-unfolding head_text
-write_sheet_head-requires c =
-    omega (arith, c.requires.2, ap length (sheet (goal.at.write_sheet_head-requires c).In-Sheet))
+pub line_of-requires : goal.line_of-requires
+unfolding head_text first_line field
+line_of-requires c =
+    omega (arith, c.requires.2, ap length (sheet (goal.at.line_of-requires c).In-Sheet))
 
 pub returns-in-Edges : goal.returns-in-Edges
 unfolding head_text problem_text bytes
@@ -39,9 +41,9 @@ returns-in-Edges c =
     }
 
 pub returns-in-Sheet : goal.returns-in-Sheet
-unfolding head_text
+unfolding head_text first_line line fields field
 returns-in-Sheet c =
     let a = c.args in record {
-      output = c.write_sheet_head.ensures.output ∙ ap (λ (b : List ℕ). sets a.output.now 0 b) (sheet (goal.at.returns-in-Sheet c).In-Sheet);
-      end = c.write_sheet_head.ensures.end ∙ ap length (sheet (goal.at.returns-in-Sheet c).In-Sheet);
+      output = c.line_of.ensures.output ∙ ap (λ (b : List ℕ). sets a.output.now 0 b) (sheet (goal.at.returns-in-Sheet c).In-Sheet);
+      end = c.line_of.ensures.at ∙ ap length (sheet (goal.at.returns-in-Sheet c).In-Sheet);
     }

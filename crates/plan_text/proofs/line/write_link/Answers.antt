@@ -7,6 +7,8 @@ use native.Mathlib.Numerals.{add-one}
 use native.Mathlib.Omega.{arith}
 use lib.ListN.{length}
 use lib.Seq.{sets}
+use Rattle.fields.specs.Field.{field, fields, line}
+use Rattle.sheet.specs.Written.{link_line}
 use Rattle.wording.specs.Text.{bytes}
 use Rattle.edge_lines.specs.Writing.{edge_text}
 use Rattle.plan_text.specs.Text.{link_text}
@@ -31,10 +33,10 @@ unfolding edge_text bytes
 put_pair-requires c =
     (omega (arith, c.requires.0), omega (arith, c.requires.0), omega (arith, c.requires.1, ap length (edges (goal.at.put_pair-requires c).In-Edges)))
 
-pub write_sheet_link-requires : goal.write_sheet_link-requires
-unfolding link_text
-write_sheet_link-requires c =
-    omega (arith, c.requires.1, ap length (sheet (goal.at.write_sheet_link-requires c).In-Sheet))
+pub line_of-requires : goal.line_of-requires
+unfolding link_text link_line field
+line_of-requires c =
+    omega (arith, c.requires.1, ap length (sheet (goal.at.line_of-requires c).In-Sheet))
 
 pub returns-in-Edges : goal.returns-in-Edges
 unfolding edge_text bytes
@@ -45,9 +47,9 @@ returns-in-Edges c =
     }
 
 pub returns-in-Sheet : goal.returns-in-Sheet
-unfolding link_text
+unfolding link_text link_line line fields field
 returns-in-Sheet c =
     let a = c.args in record {
-      output = c.write_sheet_link.ensures.output ∙ ap (λ (b : List ℕ). sets a.output.now a.at b) (sheet (goal.at.returns-in-Sheet c).In-Sheet);
-      end = c.write_sheet_link.ensures.end ∙ ap (λ (b : List ℕ). a.at + length b) (sheet (goal.at.returns-in-Sheet c).In-Sheet);
+      output = c.line_of.ensures.output ∙ ap (λ (b : List ℕ). sets a.output.now a.at b) (sheet (goal.at.returns-in-Sheet c).In-Sheet);
+      end = c.line_of.ensures.at ∙ ap (λ (b : List ℕ). a.at + length b) (sheet (goal.at.returns-in-Sheet c).In-Sheet);
     }

@@ -1,11 +1,13 @@
 -- `choice::choose` meets its contract. Where weights tell, the last of the heaviest is chosen. In MNS no entry of the tie-break from the place reached on is open.
 -- Assumes nothing.
 use Prim.Native.Nat.{ℕ, ◌-◌, ◌<◌}
-use mathlib.Core.Path.{◌≡◌, sym, ap, ◌∙◌}
+use mathlib.Core.Path.{◌≡◌, refl, sym, ap, ◌∙◌}
 use native.Mathlib.Omega.{arith}
 use lib.Dec.{T}
 use lib.ListN.{length}
 use Rattle.bitset.proofs.Tests.{said_true}
+use Rattle.bitset.proofs.Below.{any_at}
+use Rattle.tables.proofs.Found.{some_first, there}
 use Rattle.searches.specs.Kind.{search_of}
 use Rattle.searches.specs.Ordering.{at}
 use Rattle.labels.proofs.Comparison.{search_of_mns}
@@ -16,7 +18,7 @@ use Rattle.wide.proofs.Choosing.{first_in_front, lead_chosen}
 use Rattle.wide.proofs.Heaviest.{last_heaviest}
 use Rattle.wide.proofs.Equal.{unequal_asked}
 use Rattle.wide.proofs.choice.choose.Goals as goal
-use Rattle.wide.proofs.choice.choose.Goals.{After-first_of-first, After-is_open, After-last_at-q}
+use Rattle.wide.proofs.choice.choose.Goals.{After-unwrap-first, After-is_open, After-last_at-q}
 
 -- the place found is that of the chosen vertex
 heaviest : (c : After-last_at-q)
@@ -31,17 +33,22 @@ vertex_at-requires c = (heaviest c).0
 pub returns-then-most-gt0 : goal.returns-then-most-gt0
 returns-then-most-gt0 c = c.vertex_at.ensures ∙ (heaviest (goal.at.returns-then-most-gt0 c).After-last_at-q).1
 
+pub unwrap-first-requires : goal.unwrap-first-requires
+unwrap-first-requires c =
+    let x = first_in_front (search_of c.args.labels.now.kind.0) c.requires c.front_of-front.ensures refl in
+    there 512 _ _ c.first_of.ensures (any_at 512 _ _ x.0 x.1)
+
 -- the smallest vertex of the front is one of it
-found : (c : After-first_of-first) → (c.first_of-first.result < 512) × T (in_set c.front_of-front.result c.first_of-first.result)
+found : (c : After-unwrap-first) → (c.unwrap-first.result < 512) × T (in_set c.front_of-front.result c.unwrap-first.result)
 found c =
-    first_in_front (search_of c.args.labels.now.kind.0) c.requires c.front_of-front.ensures c.first_of-first.ensures
+    first_in_front (search_of c.args.labels.now.kind.0) c.requires c.front_of-front.ensures (some_first 512 _ (sym c.unwrap-first.ensures ∙ c.first_of.ensures)).1
 
 pub overflow_cast-first : goal.overflow_cast-first
 overflow_cast-first c = omega (arith, (found c).0)
 
 pub lead_of-requires : goal.lead_of-requires
 lead_of-requires c =
-    (record { weighed = c.requires.weighed; other = search_of_mns _ (unequal_asked c.ne.ensures c.if-ne.true); size = c.requires.ranked.size }, (found (goal.at.lead_of-requires c).After-first_of-first).0, (found (goal.at.lead_of-requires c).After-first_of-first).1)
+    (record { weighed = c.requires.weighed; other = search_of_mns _ (unequal_asked c.ne.ensures c.if-ne.true); size = c.requires.ranked.size }, (found (goal.at.lead_of-requires c).After-unwrap-first).0, (found (goal.at.lead_of-requires c).After-unwrap-first).1)
 
 pub returns-then-ne : goal.returns-then-ne
 returns-then-ne c =

@@ -1,7 +1,8 @@
 -- `wide::choice::first_of` meets its contract: the first word of the set that is not empty has it.
 -- Assumes nothing.
 use native.Mathlib.Omega.{arith}
-use Rattle.bitset.proofs.Passed.{passed_start, first_unfound}
+use Rattle.bitset.proofs.Passed.{passed_start}
+use Rattle.tables.proofs.Found.{first_inside, found_none}
 use Rattle.tables.specs.Rows.{in_set}
 use Rattle.tables.proofs.Bits.{in_word_at_lem}
 use Rattle.tables.proofs.Words.{FirstHere, first_here}
@@ -19,10 +20,11 @@ turn c =
     first_here _ _ i _ (λ q h. in_word_at_lem _ i q c.loop-i-test.true h) _ (omega (arith, c.loop-i-test.true)) c.loop-i.invariant c.smallest-q.ensures
 
 pub returns-then-q-lt64 : goal.returns-then-q-lt64
-returns-then-q-lt64 c = (turn (goal.at.returns-then-q-lt64 c).After-smallest-q).found c.if-q-lt64.true
+returns-then-q-lt64 c =
+    first_inside 512 _ ((turn (goal.at.returns-then-q-lt64 c).After-smallest-q).found c.if-q-lt64.true) (omega (arith, c.loop-i-test.true, c.if-q-lt64.true))
 
 pub loop-i-preserved : goal.loop-i-preserved
 loop-i-preserved c = (turn (goal.at.loop-i-preserved c).After-smallest-q).passed c.if-q-lt64.false
 
 pub returns : goal.returns
-returns c = first_unfound c.loop-i.invariant (omega (arith, c.loop-i-test.false))
+returns c = found_none c.loop-i.invariant (omega (arith, c.loop-i-test.false))

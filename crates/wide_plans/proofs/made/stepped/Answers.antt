@@ -7,10 +7,10 @@ use borrow.Author.Rules.{rules}
 use Rattle.wide_plans.proofs.made.stepped.Goals as goal
 
 -- a remainder by n is below n
-pub overflow_cast-order : goal.overflow_cast-order
-overflow_cast-order c =
+pub overflow_cast-point : goal.overflow_cast-point
+overflow_cast-point c =
     let n = c.args.n in
-    let reached = c.loop-q.reached in
+    let reached = c.loop-point.reached in
     let some : 0 < n = search rules in
     let below : reached % n < n = mod-lt reached some in
     let few : n ≤ 513 = c.requires.0 in

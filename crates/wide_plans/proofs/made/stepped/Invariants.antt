@@ -2,5 +2,5 @@
 use Prim.Native.Nat.{◌≤◌, ◌+◌, ◌*◌}
 use Rattle.wide_plans.proofs.made.stepped.Given as goal
 
-abbrev pub invariant-loop-q : goal.invariant-loop-q
-invariant-loop-q l = l.reached ≤ 1024 + l.q * 1024
+abbrev pub invariant-loop-point : goal.invariant-loop-point
+invariant-loop-point l = l.reached ≤ 1024 + l.point-index * 1024

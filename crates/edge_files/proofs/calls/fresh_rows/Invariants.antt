@@ -1,9 +1,0 @@
--- `edge_files::calls::fresh_rows` writes to places that are there.
-use Prim.Native.Nat.{◌≤◌, ◌-◌}
-use Rattle.edge_files.proofs.calls.fresh_rows.Given as goal
-
-abbrev pub invariant-loop-p : goal.invariant-loop-p
-invariant-loop-p l = l.p ≤ 68
-
-abbrev pub decreases-loop-p : goal.decreases-loop-p
-decreases-loop-p l = 68 - l.p

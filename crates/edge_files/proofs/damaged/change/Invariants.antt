@@ -1,9 +1,0 @@
--- `edge_files::damaged::change` reads bytes that are there.
-use Prim.Native.Nat.{◌≤◌, ◌-◌}
-use Rattle.edge_files.proofs.damaged.change.Given as goal
-
-abbrev pub invariant-loop-i : goal.invariant-loop-i
-invariant-loop-i l = l.i ≤ 13
-
-abbrev pub decreases-loop-i : goal.decreases-loop-i
-decreases-loop-i l = 13 - l.i

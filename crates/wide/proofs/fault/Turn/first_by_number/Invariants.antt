@@ -1,0 +1,9 @@
+-- `wide::fault::Turn::first_by_number` meets its contract.
+use Rattle.bitset.proofs.Passed.{Passed}
+use Rattle.searches.specs.Kind.{search_of}
+use Rattle.searches.specs.Table.{arcs_wide}
+use Rattle.searches.specs.Violation.{violates}
+use Rattle.wide.proofs.fault.Turn.first_by_number.Given as goal
+
+abbrev pub invariant-loop-v : goal.invariant-loop-v
+invariant-loop-v l = Passed l.self.graph.n (violates (search_of l.self.labels.now.kind.0) (arcs_wide 8 l.self.graph.table.now) l.self.ordering.now l.i.0 l.self.j.0) l.v

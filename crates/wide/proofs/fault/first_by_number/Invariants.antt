@@ -1,9 +1,0 @@
--- `wide::fault::first_by_number` meets its contract.
-use Rattle.bitset.proofs.Passed.{Passed}
-use Rattle.searches.specs.Kind.{search_of}
-use Rattle.searches.specs.Table.{arcs_wide}
-use Rattle.searches.specs.Violation.{violates}
-use Rattle.wide.proofs.fault.first_by_number.Given as goal
-
-abbrev pub invariant-loop-v : goal.invariant-loop-v
-invariant-loop-v l = Passed l.graph.n (violates (search_of l.labels.kind.0) (arcs_wide 8 l.graph.table.now) l.ordering l.i.0 l.j.0) l.v

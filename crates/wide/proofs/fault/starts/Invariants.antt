@@ -1,8 +1,0 @@
--- `fault::starts` meets its contract, word by word: no vertex of the words passed completes a violation.
-use Rattle.bitset.proofs.Passed.{Passed}
-use Rattle.searches.specs.Kind.{search_of}
-use Rattle.wide.proofs.Starting.{starts_word}
-use Rattle.wide.proofs.fault.starts.Given as goal
-
-abbrev pub invariant-loop-word : goal.invariant-loop-word
-invariant-loop-word l = Passed 8 (starts_word (search_of l.labels.kind.0) l.graph.table.now l.labels.words l.free l.i.0 l.a l.b.0) l.word
