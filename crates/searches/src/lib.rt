@@ -15,7 +15,8 @@ pub struct WideVertex(pub u16);
 #[derive(Clone, Copy, PartialEq, Eq)]
 pub struct Position(pub usize);
 
-// Which of the searches is meant (01: kind). Bytes without a constant here name none and are refused.
+// Which of the searches is meant (01: kind). Bytes without a constant here name none and are refused, with 1 and in its turn; 01 names this form, a byte with
+// associated constants.
 #[derive(Clone, Copy, PartialEq, Eq)]
 pub struct Kind(pub u8);
 
