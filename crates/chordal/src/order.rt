@@ -42,6 +42,7 @@ pub fn write_order(rows: &[u64], ordering: &mut [u8; 64])
 }
 
 // Writes the first `n` vertices of `ordering` to the front of `output`, the last one first.
+// `n` stands beside `ordering`, which is an array of 64 bytes, as there is no heap.
 pub fn write_turned(ordering: &[u8], n: usize, output: &mut [u8])
     requires { (n ≤ length ordering.now) × (n ≤ length output.old) }
     ensures { output.new ≡ listed n (turned ordering.now n) ++ drop n output.old }

@@ -14,6 +14,7 @@ use steps::place::{Stage, place};
 
 // Writes the unplaced vertices to the front of `tail`, in the order in which they carry on from position `k`, with which `tail` begins. `labels` and `stage`
 // are those after the first `k`.
+// `k` is a position here, and no length of a list.
 pub fn fill<G: Graph>(
     graph: G,
     tie_break: &[u8],

@@ -12,6 +12,7 @@ use searches::Position;
 
 // Writes the unplaced vertices to the front of `tail`, in the order in which they carry on from position `k`, with which `tail` begins. What is kept is that
 // after the first `k`.
+// `k` is a position here, and no length of a list.
 pub fn fill(
     graph: &Graph,
     tie_break: &[u16],

@@ -74,6 +74,7 @@ fn verdict(kind: Kind, graph: &Graph, ordering: &[u16]) -> Judgement<WideVertex>
 // Carries on the first `k` vertices of `output`: at each further position, of the vertices then offered, the one that stands last in `tie_break` is written,
 // until all vertices are placed. Refused (1 to 6, 10, 7, 8, 9, 12; 5 for two-way graphs only), `output` stays as it was; done, only the positions from `k` up
 // to the number of vertices are written. `table` and `tie_break` are not altered.
+// README names the call with these parameters, which are those of `carry_on_wide`.
 pub fn carry_on(
     kind: Kind,
     mark: Mark,
@@ -91,6 +92,7 @@ pub fn carry_on(
 }
 
 // Carries on a start of distinct vertices, unless it does not pass.
+// `k` stands beside `output`, since what is behind the first `k` entries is written.
 fn extend(
     kind: Kind,
     graph: &Graph,

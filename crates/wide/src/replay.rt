@@ -25,6 +25,7 @@ pub fn all_below(n: usize) -> [u64; 8]
 
 // Places the first `k` vertices of `ordering`, up to the first that was not offered, and returns how many these are. Labels, running values, weights and
 // sets come in as those of nothing placed, and leave as those after so many vertices.
+// The list has `k` beside it, as in the definitions of the clauses: carry-on replays the front of the list that it then writes to.
 pub fn replay(
     graph: &Graph,
     ordering: &[u16],
