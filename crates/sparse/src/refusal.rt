@@ -1,5 +1,5 @@
-// What is refused of an ordering on adjacency lists. These are not the tests of `checks`, as 26 stands for 3, and the graph is a `Layout` only once 26 does not
-// apply (`open_tests_listed`, `judge_tests_listed`).
+// What is refused of an ordering on adjacency lists. The tests on the graph are not those of `checks`, as 26 stands for 3, and the graph is a `Layout` only once
+// 26 does not apply (`open_tests_listed`); those on the ordering are.
 ghost use Rattle.std.specs.Prelude.{◌≡◌, IfOk};
 ghost use Rattle.searches.specs.Answer.{first_refusal, refusal_of};
 ghost use Rattle.sparse.specs.Judge.{open_tests_listed, judge_tests_listed};

@@ -78,7 +78,8 @@ impl<'a> Turn<'a> {
     fn first_by_position(&self, i: Position) -> Option<Position>
         requires { i.0 < self.now.j.0 }
         ensures { option_map (λ (p : Position). p.0) result
-            ≡ found_below self.now.k (λ p. violates (search_of self.now.labels.now.kind.0) (arcs_wide 8 self.now.graph.table.now) self.now.ordering.now i.0 self.now.j.0 (at self.now.ordering.now p)) }
+            ≡ found_below self.now.k (λ p. violates (search_of self.now.labels.now.kind.0) (arcs_wide 8 self.now.graph.table.now) self.now.ordering.now
+            i.0 self.now.j.0 (at self.now.ordering.now p)) }
     {
         // The index is a position, and it is answered.
         for p in self.j.0 + 1..self.k {
@@ -94,7 +95,8 @@ impl<'a> Turn<'a> {
     fn first_by_number(&self, i: Position) -> Option<WideVertex>
         requires { i.0 < self.now.j.0 }
         ensures { option_map (λ (v : WideVertex). v.0) result
-            ≡ found_below self.now.graph.n (violates (search_of self.now.labels.now.kind.0) (arcs_wide 8 self.now.graph.table.now) self.now.ordering.now i.0 self.now.j.0) }
+            ≡ found_below self.now.graph.n (violates (search_of self.now.labels.now.kind.0) (arcs_wide 8 self.now.graph.table.now) self.now.ordering.now
+            i.0 self.now.j.0) }
     {
         for v in 0..self.graph.n {
             let c = WideVertex(v as u16);
@@ -108,9 +110,13 @@ impl<'a> Turn<'a> {
     // The third vertex of the first violation with the vertices at positions `i` and `j`, which have one: by position behind `j`, and where none is found
     // there by number.
     fn first_last(&self, i: Position) -> WideVertex
-        requires { (i.0 < self.now.j.0) × T (is_first (search_of self.now.labels.now.kind.0) (arcs_wide 8 self.now.graph.table.now) self.now.graph.n self.now.ordering.now self.now.k self.now.j.0 i.0) }
+        requires { (i.0 < self.now.j.0)
+            × T (is_first (search_of self.now.labels.now.kind.0) (arcs_wide 8 self.now.graph.table.now) self.now.graph.n self.now.ordering.now
+            self.now.k self.now.j.0 i.0) }
         ensures { result.0
-            ≡ third self.now.ordering.now self.now.k (first_below (self.now.k + self.now.graph.n) (is_last (search_of self.now.labels.now.kind.0) (arcs_wide 8 self.now.graph.table.now) self.now.graph.n self.now.ordering.now self.now.k self.now.j.0 i.0)) }
+            ≡ third self.now.ordering.now self.now.k (first_below (self.now.k + self.now.graph.n)
+            (is_last (search_of self.now.labels.now.kind.0) (arcs_wide 8 self.now.graph.table.now) self.now.graph.n self.now.ordering.now
+            self.now.k self.now.j.0 i.0)) }
     {
         if let Some(position) = self.first_by_position(i) {
             return vertex_at(self.ordering, position);
@@ -121,7 +127,9 @@ impl<'a> Turn<'a> {
     // Whether the vertex at position `i` starts a violation with the vertex at position `j`: the vertices that it leads to are tried word by word.
     fn starts(&self, i: Position) -> bool
         requires { i.0 < self.now.j.0 }
-        ensures { result ≡ is_first (search_of self.now.labels.now.kind.0) (arcs_wide 8 self.now.graph.table.now) self.now.graph.n self.now.ordering.now self.now.k self.now.j.0 i.0 }
+        ensures { result
+            ≡ is_first (search_of self.now.labels.now.kind.0) (arcs_wide 8 self.now.graph.table.now) self.now.graph.n self.now.ordering.now
+            self.now.k self.now.j.0 i.0 }
     {
         let a = vertex_at(self.ordering, i).0 as usize;
         let b = vertex_at(self.ordering, self.j);
@@ -139,7 +147,9 @@ impl<'a> Turn<'a> {
 
     // The first position of a vertex that starts a violation with the vertex at position `j`, where there is one.
     fn first_first(&self) -> Option<Position>
-        ensures { option_map (λ (p : Position). p.0) result ≡ found_below self.now.j.0 (is_first (search_of self.now.labels.now.kind.0) (arcs_wide 8 self.now.graph.table.now) self.now.graph.n self.now.ordering.now self.now.k self.now.j.0) }
+        ensures { option_map (λ (p : Position). p.0) result
+            ≡ found_below self.now.j.0 (is_first (search_of self.now.labels.now.kind.0) (arcs_wide 8 self.now.graph.table.now) self.now.graph.n
+            self.now.ordering.now self.now.k self.now.j.0) }
     {
         for i in 0..self.j.0 {
             if self.starts(Position(i)) {
@@ -151,8 +161,10 @@ impl<'a> Turn<'a> {
 
     // The first violation with the vertex at position `j`, which is the first that was not offered.
     pub fn first_violation(&self) -> Violation<WideVertex>
-        requires { self.now.j.0 ≡ first_below self.now.k (stops (search_of self.now.labels.now.kind.0) (arcs_wide 8 self.now.graph.table.now) self.now.graph.n self.now.ordering.now) }
-        ensures { wide_verdict_of (Ok (Judgement.Fails result)) ≡ judge (search_of self.now.labels.now.kind.0) (arcs_wide 8 self.now.graph.table.now) self.now.graph.n self.now.ordering.now self.now.k }
+        requires { self.now.j.0
+            ≡ first_below self.now.k (stops (search_of self.now.labels.now.kind.0) (arcs_wide 8 self.now.graph.table.now) self.now.graph.n self.now.ordering.now) }
+        ensures { wide_verdict_of (Ok (Judgement.Fails result))
+            ≡ judge (search_of self.now.labels.now.kind.0) (arcs_wide 8 self.now.graph.table.now) self.now.graph.n self.now.ordering.now self.now.k }
     {
         let i = self.first_first().unwrap();
         let a = vertex_at(self.ordering, i);
