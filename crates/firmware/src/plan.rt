@@ -23,6 +23,8 @@ pub fn refusal(kind: u8, plan: &[u8]) -> Result<(), Refusal>
 }
 
 // Writes the rows of a plan of at most 64 of them, from the front of `rows` on.
+// Never inlined: in a function that owns `rows`, LLVM makes a call of memcpy of the loop, and the archive for C needs memset alone.
+#[inline(never)]
 pub fn decode(plan: &[u8], rows: &mut [u64; 64])
     requires { (length plan.now ≤ 512) × (length rows.old ≡ 64) }
     ensures { take (length plan.now / 8) rows.new ≡ plan_rows plan.now }
