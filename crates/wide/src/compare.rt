@@ -24,6 +24,8 @@ fn within(labels: &Labels, c: usize, b: usize) -> bool
 }
 
 // How vertex `c` stands to vertex `b`. LexBFS, LexDFS and MNS compare what one label has and the other has not; the other searches compare weights.
+// Inlined, so that whoever asks who is ahead pays for no more: where this is a call, a carry-on in MNS takes half as long again.
+#[inline(always)]
 pub fn compare(labels: &Labels, c: WideVertex, b: WideVertex) -> Comparison
     requires { (c.0 < 512) × (b.0 < 512) }
     ensures { result ≡ compared (search_of labels.now.kind.0) 512 (row_of labels.now.words c.0) (row_of labels.now.words b.0) }
