@@ -60,7 +60,7 @@ pub fn verdict<G: Graph>(kind: Kind, graph: G, barred: u64, ordering: &[u8]) -> 
     let j = replayed.count;
     let free = replayed.stage.free;
     if j < k {
-        return Judgement::Fails(first_violation(graph, ordering, &labels, free, Position(j)));
+        return Judgement::Fails(first_violation(graph, ordering, k, &labels, free, Position(j)));
     }
     Judgement::Passes
 }

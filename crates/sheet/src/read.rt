@@ -1,7 +1,7 @@
 // A sheet read into rows and an ordering.
-ghost use Rattle.std.specs.Prelude.{◌≡◌, IfOk, Err};
+ghost use Rattle.std.specs.Prelude.{◌≡◌, IfOk, OnErr, Err};
 ghost use Rattle.sheet.specs.Sheet.{read_answer, stopped_in};
-ghost use Rattle.sheet.specs.Lines.{held_in};
+ghost use Rattle.sheet.specs.Lines.{held_in, nothing_held};
 ghost use Rattle.sheet.specs.Parsing.{parsed_answer, parsed_line, Readable};
 ghost use Rattle.sheet.specs.Answer.{refusal_in, line_in};
 
@@ -67,6 +67,7 @@ fn unread(refusal: Refusal, line: usize) -> Result<(), Unreadable>
 // Reads a sheet, any bytes. It alters nothing.
 pub fn read(sheet: &[u8]) -> Result<Held, Unreadable>
     ensures held { IfOk result (λ held. held ≡ held_in sheet.now) }
+    ensures refused { OnErr result (held_in sheet.now ≡ nothing_held) }
     ensures answer { refusal_in result ≡ read_answer sheet.now }
     ensures line { line_in result ≡ stopped_in sheet.now }
 {

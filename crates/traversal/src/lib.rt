@@ -7,7 +7,7 @@ mod comparison;
 mod refusals;
 mod survey;
 
-ghost use Rattle.std.specs.Prelude.{◌≡◌, IfOk};
+ghost use Rattle.std.specs.Prelude.{◌≡◌, IfOk, OnErr};
 ghost use Rattle.searches.specs.Answer.{open_barring, refusal_of};
 ghost use Rattle.traversal.specs.State.{opened, offered_answer, offered_set, place_answer, grown, take_back_answer, shrunk};
 ghost use Rattle.traversal.specs.Compare.{compare_answer, report_of};
@@ -89,6 +89,7 @@ impl Traversal {
     pub fn offered(self) -> Offering
         ensures state { result.traversal ≡ self }
         ensures set { IfOk result.set (λ set. set ≡ offered_set self) }
+        ensures refused { OnErr result.set (offered_set self ≡ 0) }
         ensures answer { refusal_of result.set ≡ offered_answer self }
     {
         let Some(moment) = self.survey() else {

@@ -2,7 +2,7 @@
 // by number. The two loops over positions count: the position is what they answer, and an iterator over the entries would count it again.
 #![tactic(auto)]
 
-ghost use Rattle.std.specs.Prelude.{◌≡◌, ◌<◌, T, Ok, MatchOption, length};
+ghost use Rattle.std.specs.Prelude.{◌≡◌, ◌<◌, T, Ok, MatchOption};
 ghost use Rattle.bitset.specs.Below.{any_below, first_below};
 ghost use Rattle.searches.specs.Kind.{search_of};
 ghost use Rattle.searches.specs.Answer.{verdict_of};
@@ -87,22 +87,23 @@ fn first_by_number(labels: &Labels, front: u64, i: Position, mine: Profile) -> O
     None
 }
 
-// The first position behind `j` with a vertex that completes a violation.
+// The first position behind `j` and below `k` with a vertex that completes a violation.
 fn first_by_position(
     ordering: &[u8],
+    k: usize,
     labels: &Labels,
     front: u64,
     j: Position,
     i: Position,
     mine: Profile,
 ) -> Option<Position>
-    requires { Positioned ordering.now (length ordering.now) j.0 i.0 × (mine ≡ profile_of (search_of labels.now.kind.0) mine.label) }
+    requires { Positioned ordering.now k j.0 i.0 × (mine ≡ profile_of (search_of labels.now.kind.0) mine.label) }
     ensures { MatchOption result
-        (first_below (length ordering.now) (behind_in (search_of labels.now.kind.0) labels.now.words front i.0 mine.label ordering.now j.0) ≡ length ordering.now)
-        (λ p. (p.0 ≡ first_below (length ordering.now) (behind_in (search_of labels.now.kind.0) labels.now.words front i.0 mine.label ordering.now j.0))
-        × (p.0 < length ordering.now)) }
+        (first_below k (behind_in (search_of labels.now.kind.0) labels.now.words front i.0 mine.label ordering.now j.0) ≡ k)
+        (λ p. (p.0 ≡ first_below k (behind_in (search_of labels.now.kind.0) labels.now.words front i.0 mine.label ordering.now j.0))
+        × (p.0 < k)) }
 {
-    for p in j.0 + 1..ordering.len() {
+    for p in j.0 + 1..k {
         let c = vertex_at(ordering, Position(p));
         if completes(labels, front, i, mine, c) {
             return Some(Position(p));
@@ -114,17 +115,18 @@ fn first_by_position(
 // The third vertex of the first violation: by position behind `j`, and where none is found there by number.
 fn first_last(
     ordering: &[u8],
+    k: usize,
     labels: &Labels,
     front: u64,
     j: Position,
     i: Position,
     mine: Profile,
 ) -> Option<Vertex>
-    requires { Positioned ordering.now (length ordering.now) j.0 i.0 × (mine ≡ profile_of (search_of labels.now.kind.0) mine.label) }
-    ensures { MatchOption result (last_of (search_of labels.now.kind.0) labels.now.words front i.0 mine.label ordering.now j.0 (length ordering.now) ≡ 64)
-        (λ c. c.0 ≡ last_of (search_of labels.now.kind.0) labels.now.words front i.0 mine.label ordering.now j.0 (length ordering.now)) }
+    requires { Positioned ordering.now k j.0 i.0 × (mine ≡ profile_of (search_of labels.now.kind.0) mine.label) }
+    ensures { MatchOption result (last_of (search_of labels.now.kind.0) labels.now.words front i.0 mine.label ordering.now j.0 k ≡ 64)
+        (λ c. c.0 ≡ last_of (search_of labels.now.kind.0) labels.now.words front i.0 mine.label ordering.now j.0 k) }
 {
-    match first_by_position(ordering, labels, front, j, i, mine) {
+    match first_by_position(ordering, k, labels, front, j, i, mine) {
         Some(position) => Some(vertex_at(ordering, position)),
         None => first_by_number(labels, front, i, mine),
     }
@@ -134,14 +136,15 @@ fn first_last(
 fn first_first<G: Graph>(
     graph: G,
     ordering: &[u8],
+    k: usize,
     labels: &Labels,
     free: u64,
     j: Position,
 ) -> Option<Position>
-    requires { Searchable (search_of labels.now.kind.0) (G.rows graph) ordering.now (length ordering.now) labels.now.words labels.now.weights free j.0 }
+    requires { Searchable (search_of labels.now.kind.0) (G.rows graph) ordering.now k labels.now.words labels.now.weights free j.0 }
     ensures { MatchOption result
-        (first_below j.0 (first_in (search_of labels.now.kind.0) (G.rows graph) ordering.now labels.now.words free j.0 (length ordering.now)) ≡ j.0)
-        (λ i. (i.0 ≡ first_below j.0 (first_in (search_of labels.now.kind.0) (G.rows graph) ordering.now labels.now.words free j.0 (length ordering.now)))
+        (first_below j.0 (first_in (search_of labels.now.kind.0) (G.rows graph) ordering.now labels.now.words free j.0 k) ≡ j.0)
+        (λ i. (i.0 ≡ first_below j.0 (first_in (search_of labels.now.kind.0) (G.rows graph) ordering.now labels.now.words free j.0 k))
         × (i.0 < j.0)) }
 {
     let b = vertex_at(ordering, j);
@@ -157,26 +160,28 @@ fn first_first<G: Graph>(
 }
 
 // The first violation with the vertex at position `j`, which has one. `labels` and `free` are those of its turn.
+// `k` stands beside the list, as in `first_fault`: an entry behind the first `k` is no part of the ordering.
 pub fn first_violation<G: Graph>(
     graph: G,
     ordering: &[u8],
+    k: usize,
     labels: &Labels,
     free: u64,
     j: Position,
 ) -> Violation<Vertex>
-    requires { Searchable (search_of labels.now.kind.0) (G.rows graph) ordering.now (length ordering.now) labels.now.words labels.now.weights free j.0
-        × T (any_below j.0 (first_in (search_of labels.now.kind.0) (G.rows graph) ordering.now labels.now.words free j.0 (length ordering.now))) }
+    requires { Searchable (search_of labels.now.kind.0) (G.rows graph) ordering.now k labels.now.words labels.now.weights free j.0
+        × T (any_below j.0 (first_in (search_of labels.now.kind.0) (G.rows graph) ordering.now labels.now.words free j.0 k)) }
     ensures { verdict_of (Ok (Judgement.Fails result))
-        ≡ first_fault (search_of labels.now.kind.0) (G.rows graph) ordering.now labels.now.words free j.0 (length ordering.now) }
+        ≡ first_fault (search_of labels.now.kind.0) (G.rows graph) ordering.now labels.now.words free j.0 k }
 {
-    let Some(i) = first_first(graph, ordering, labels, free, j) else {
+    let Some(i) = first_first(graph, ordering, k, labels, free, j) else {
         unreachable!()
     };
     let a = vertex_at(ordering, i);
     let b = vertex_at(ordering, j);
     let front = front_of(graph, free, a, b);
     let mine = labels.profile(b);
-    let Some(c) = first_last(ordering, labels, front, j, i, mine) else {
+    let Some(c) = first_last(ordering, k, labels, front, j, i, mine) else {
         unreachable!()
     };
     Violation { a, b, c }

@@ -2,7 +2,6 @@
 -- Assumes nothing.
 use mathlib.Core.Path.{◌≡◌, sym, ◌∙◌}
 use native.Mathlib.Omega.{arith}
-use lib.ListN.{length}
 use Rattle.bitset.proofs.Passed.{passed_more, first_found, first_unfound}
 use Rattle.searches.specs.Kind.{search_of}
 use Rattle.violation.specs.Fault.{behind_in}
@@ -13,7 +12,7 @@ use Rattle.violation.proofs.first_by_position.Goals.{After-completes}
 pub loop-p-init : goal.loop-p-init
 loop-p-init c =
     let a = c.args in
-    (behind_start (search_of a.labels.now.kind.0) a.labels.now.words a.front a.i.0 a.mine.label a.ordering.now a.j.0 (length a.ordering.now) c.requires.0.inside, omega arith)
+    (behind_start (search_of a.labels.now.kind.0) a.labels.now.words a.front a.i.0 a.mine.label a.ordering.now a.j.0 a.k c.requires.0.inside, omega arith)
 
 pub completes-requires : goal.completes-requires
 completes-requires c = (c.requires.0.bit, c.requires.1)

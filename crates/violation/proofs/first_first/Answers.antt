@@ -5,7 +5,7 @@ use mathlib.Core.Path.{◌≡◌, refl, sym, ap, ◌∙◌}
 use mathlib.Core.Bool.{true, false}
 use native.Mathlib.Omega.{arith}
 use lib.Dec.{T}
-use lib.ListN.{length, get_or}
+use lib.ListN.{get_or}
 use Rattle.bitset.specs.Below.{first_below}
 use Rattle.bitset.proofs.Tests.{is_true, is_false}
 use Rattle.bitset.proofs.Passed.{passed_start, passed_more, first_found, first_unfound}
@@ -43,7 +43,7 @@ first_by_number-requires g c =
 -- what the search by number says of position i
 starts : (g : Over) (c : After-is_some g)
     → let a = c.args in
-    let test = first_in (search_of a.labels.now.kind.0) (g.G.Graph.rows a.graph) a.ordering.now a.labels.now.words a.free a.j.0 (length a.ordering.now) c.loop-i.i in
+    let test = first_in (search_of a.labels.now.kind.0) (g.G.Graph.rows a.graph) a.ordering.now a.labels.now.words a.free a.j.0 a.k c.loop-i.i in
     (c.is_some.result ≡ true → T test) × (c.is_some.result ≡ false → T test → ⊥)
 starts g c =
     let a = c.args in
@@ -52,8 +52,8 @@ starts g c =
     let mine =
     label_of k (get_or a.labels.now.words c.vertex_at-b.result.0 0) (made g (goal.at.After-is_some g c).After-profile-mine) ∙ ap (λ (v : ℕ). get_or a.labels.now.words v 0) c.vertex_at-b.ensures in
     let told = sought {x = first_below 64 (completes_in k a.labels.now.words c.front_of-front.result c.loop-i.i c.profile-mine.result.label)} c.first_by_number.result c.first_by_number.ensures c.is_some.ensures in (
-      λ t. first_there k (g.G.Graph.rows a.graph) a.ordering.now a.labels.now.words a.free (length a.ordering.now) a.j.0 c.loop-i.i front mine c.requires refl (told.0 t),
-      λ f. first_nowhere k (g.G.Graph.rows a.graph) a.ordering.now a.labels.now.words a.free (length a.ordering.now) a.j.0 c.loop-i.i front mine c.requires refl (told.1 f),
+      λ t. first_there k (g.G.Graph.rows a.graph) a.ordering.now a.labels.now.words a.free a.k a.j.0 c.loop-i.i front mine c.requires refl (told.0 t),
+      λ f. first_nowhere k (g.G.Graph.rows a.graph) a.ordering.now a.labels.now.words a.free a.k a.j.0 c.loop-i.i front mine c.requires refl (told.1 f),
     )
 
 pub returns-then-is_some : goal.returns-then-is_some

@@ -4,7 +4,7 @@ use Prim.Native.Nat.{ℕ, ◌<◌}
 use mathlib.Core.Path.{◌≡◌, sym, ap, ◌∙◌}
 use native.Mathlib.Omega.{arith}
 use lib.Dec.{T}
-use lib.ListN.{length, get_or}
+use lib.ListN.{get_or}
 use Rattle.bitset.proofs.Passed.{none_found}
 use Rattle.searches.specs.Kind.{search_of}
 use Rattle.searches.specs.Ordering.{at}
@@ -22,10 +22,10 @@ use Rattle.violation.proofs.first_violation.Goals.{In-Some, After-profile-mine}
 starts : (g : Over) (c : In-Some g)
     → let a = c.args in
     let i = c.in-Some.i.0 in
-    (i < a.j.0) × T (first_in (search_of a.labels.now.kind.0) (g.G.Graph.rows a.graph) a.ordering.now a.labels.now.words a.free a.j.0 (length a.ordering.now) i)
+    (i < a.j.0) × T (first_in (search_of a.labels.now.kind.0) (g.G.Graph.rows a.graph) a.ordering.now a.labels.now.words a.free a.j.0 a.k i)
 starts g c =
     let a = c.args in
-    first_starts (search_of a.labels.now.kind.0) (g.G.Graph.rows a.graph) a.ordering.now a.labels.now.words a.free a.j.0 (length a.ordering.now) c.in-Some.i.0 c.requires.1 c.in-Some.ensures.0
+    first_starts (search_of a.labels.now.kind.0) (g.G.Graph.rows a.graph) a.ordering.now a.labels.now.words a.free a.j.0 a.k c.in-Some.i.0 c.requires.1 c.in-Some.ensures.0
 
 pub vertex_at-a-requires : goal.vertex_at-a-requires
 vertex_at-a-requires g c = omega (arith, (starts g c).0, c.requires.0.inside, c.requires.0.long)
@@ -69,7 +69,7 @@ unreachable-requires-in_default-first_last g c =
     let a = c.args in
     let is = seen g (goal.at.unreachable-requires-in_default-first_last g c).After-profile-mine in
     let vertex =
-    last_vertex (search_of a.labels.now.kind.0) (g.G.Graph.rows a.graph) a.ordering.now a.labels.now.words a.free (length a.ordering.now) a.j.0 c.in-Some.i.0 is.0 is.1
+    last_vertex (search_of a.labels.now.kind.0) (g.G.Graph.rows a.graph) a.ordering.now a.labels.now.words a.free a.k a.j.0 c.in-Some.i.0 is.0 is.1
     c.requires.0 (starts g (goal.at.unreachable-requires-in_default-first_last g c).In-Some).1
     in
     omega (arith, vertex, c.in_default-first_last.ensures, c.requires.0.small)
@@ -81,8 +81,8 @@ returns g c =
     let k = search_of a.labels.now.kind.0 in
     let i = c.in-Some.i.0 in
     let is = seen g (goal.at.returns g c).After-profile-mine in
-    shown k (g.G.Graph.rows a.graph) a.ordering.now a.labels.now.words a.free a.j.0 (length a.ordering.now) i c.in-Some.ensures.0 c.vertex_at-a.ensures c.vertex_at-b.ensures
-    (last_third k (g.G.Graph.rows a.graph) a.ordering.now a.labels.now.words a.free (length a.ordering.now) a.j.0 i is.0 is.1 c.requires.0 c.in-Some-first_last.ensures
+    shown k (g.G.Graph.rows a.graph) a.ordering.now a.labels.now.words a.free a.j.0 a.k i c.in-Some.ensures.0 c.vertex_at-a.ensures c.vertex_at-b.ensures
+    (last_third k (g.G.Graph.rows a.graph) a.ordering.now a.labels.now.words a.free a.k a.j.0 i is.0 is.1 c.requires.0 c.in-Some-first_last.ensures
     (starts g (goal.at.returns g c).In-Some).1)
 
 pub unreachable-requires : goal.unreachable-requires

@@ -5,7 +5,7 @@ use mathlib.Core.Option.{Option, none}
 use Prim.Native.Nat.{ℕ}
 use Rattle.std.proofs.lemmas.Result.{err_from_is_err_and}
 use Rattle.sheet.specs.Sheet.{read_answer, stopped_in}
-use Rattle.sheet.specs.Lines.{held_unless, held_in}
+use Rattle.sheet.specs.Lines.{held_unless, held_in, nothing_held}
 use Rattle.sheet.specs.Parsing.{parsed_of, parsed_answer, parsed_line, Readable}
 use Rattle.sheet.specs.Answer.{refusal_in, line_in}
 use Rattle.lines.specs.declared.Parsed.{Parsed}
@@ -29,11 +29,12 @@ answered c =
     )
 
 pub returns-in_err-decide : goal.returns-in_err-decide
-unfolding refusal_in line_in
+unfolding refusal_in line_in held_in held_unless nothing_held
 returns-in_err-decide c =
     let so = answered (goal.at.returns-in_err-decide c).After-decide in
     let told = err_from_is_err_and c.from_residual.result c.from_residual.ensures.1 in
-    rw (told.1, told.2) (record { held = tt; answer = sym (ap refusal_in c.in_err-decide.was) ∙ so.0; line = sym (ap line_in c.in_err-decide.was) ∙ so.1 })
+    let refused_so = sym (ap refusal_in c.in_err-decide.was) ∙ so.0 in
+    rw (told.1, told.2) (record { held = tt; refused = sym (ap (λ (answer : Option ℕ). held_unless answer c.args.sheet.now) refused_so); answer = sym (ap refusal_in c.in_err-decide.was) ∙ so.0; line = sym (ap line_in c.in_err-decide.was) ∙ so.1 })
 
 pub returns : goal.returns
 unfolding refusal_in line_in held_in
@@ -44,6 +45,7 @@ returns c =
     let held : Parsed → Held = λ p. record { n = p.content.n; rows = p.content.rows; k = p.content.k; ordering = p.content.ordering } in
     record {
       held = ap held c.parse-parsed.ensures ∙ parsed_held b read_so ∙ ap (λ (answer : Option ℕ). held_unless answer b) read_so;
+      refused = tt;
       answer = read_so;
       line = sym (ap line_in c.in_ok-decide.was) ∙ so.1;
     }

@@ -23,6 +23,9 @@ pub returns-in_default-clause-answer : goal.returns-in_default-clause-answer
 unfolding refusal_of number
 returns-in_default-clause-answer c = (offered_refused c.args.self (sym c.in_default.ensures.formed)).1
 
+pub returns-in_default-clause-refused : goal.returns-in_default-clause-refused
+returns-in_default-clause-refused c = sym (offered_refused c.args.self (sym c.in_default.ensures.formed)).0
+
 pub open_below-set-requires : goal.open_below-set-requires
 open_below-set-requires c = (parts c.args.self (said_true (well_formed c.args.self) c.in-Some.ensures.formed refl)).points
 
@@ -39,6 +42,7 @@ returns c =
     let whole = offered_whole t (sym e.formed) (open_offers t full.0 full.1 formed words.0 words.1) in
     record {
       state = refl;
+      refused = tt;
       set = (c.open_below-set.ensures ∙ ap (λ (kind : ℕ). set_below t.n (open_in (search_of kind) moment.labels.words moment.free)) e.moment.of_kind) ∙ whole.0;
       answer = whole.1;
     }
