@@ -8,7 +8,7 @@ use traversal::Traversal;
 fn compare(traversal: Traversal, first: u8, second: u8) -> Traversal {
     let compared = traversal.compare(Vertex(first), Vertex(second));
     let standing = compared.standing;
-    notation::show_standing(standing);
+    notation::show_standing(standing.map_err(|refusal| refusal as u64));
     compared.traversal
 }
 

@@ -47,7 +47,7 @@ pub fn show_stepped(stepped: Stepped) {
     let outcome = stepped.outcome;
     let t = stepped.traversal;
     put(b';');
-    show(notation::outcome(outcome));
+    show(notation::outcome(outcome.map_err(|refusal| refusal as u64)));
     put(b';');
     put(b' ');
     show_walk(t);

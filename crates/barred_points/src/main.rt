@@ -90,7 +90,7 @@ fn play(kind: u8, mark: Mark, n: usize, links: Links, how_many: Barred) -> Trave
     let r = seed(kind, mark, n, links, how_many);
     let barred = barred_set(how_many, n, r);
     let unbarred = bitset::size(bitset::without(bitset::full_below(n), barred));
-    let mut t = try_all(open(kind, mark, plans::small(mark, n, links, r), n, barred));
+    let mut t = try_all(open(kind, mark, plans::small(mark, n, links as u8, r), n, barred));
     let mut random = r;
     for _ in 0..unbarred {
         random = next(random);

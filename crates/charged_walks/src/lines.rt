@@ -10,7 +10,9 @@ pub fn play(kind: u8, mark: Mark, rows: &[u64], ordering: &[u8], minutes: &[u16]
     show(ordering.len() as u64);
     show(minutes.len() as u64);
     show(rate);
-    show_answer(charge::charge(Kind(kind), mark, rows, ordering, minutes, rate));
-    show_answer(charge::charge_halves_up(Kind(kind), mark, rows, ordering, minutes, rate));
+    let even = charge::charge(Kind(kind), mark, rows, ordering, minutes, rate);
+    let up = charge::charge_halves_up(Kind(kind), mark, rows, ordering, minutes, rate);
+    show_answer(even.map_err(|refusal| refusal as u64));
+    show_answer(up.map_err(|refusal| refusal as u64));
     put(b'\n');
 }

@@ -80,7 +80,7 @@ fn without_rings(n: usize)
 fn random(n: usize, links: Links, random: u64, room: usize)
     requires { (n ≤ 64) × (room ≤ 66) }
 {
-    let rows = plans::small(Mark::TwoWay, n, links, random);
+    let rows = plans::small(Mark::TwoWay, n, links as u8, random);
     two_way(&rows[..n], room);
 }
 

@@ -41,7 +41,7 @@ const PENDANT_ON_1: u64 = 0x0a0d0203_00000000;
 fn compare(traversal: Traversal, first: u8, second: u8) -> Traversal {
     let compared = traversal.compare(Vertex(first), Vertex(second));
     let standing = compared.standing;
-    notation::show_standing(standing);
+    notation::show_standing(standing.map_err(|refusal| refusal as u64));
     compared.traversal
 }
 
@@ -146,7 +146,7 @@ fn play(kind: u8, mark: Mark, n: usize, links: Links) -> Traversal
     requires { n ≤ 9 }
 {
     let r = seed(kind, mark, n, links);
-    let mut t = compare_all(start(kind, mark, n, plans::small(mark, n, links, r)));
+    let mut t = compare_all(start(kind, mark, n, plans::small(mark, n, links as u8, r)));
     let mut random = r;
     for _ in 0..n {
         random = next(random);
@@ -167,7 +167,7 @@ fn play_back(kind: u8, mark: Mark) {
 // A walk over four of nine points, and then six.
 fn play_on_nine(kind: u8, mark: Mark) {
     let r = seed(kind, mark, 9, Links::Half);
-    let t = start(kind, mark, 9, plans::small(mark, 9, Links::Half, r));
+    let t = start(kind, mark, 9, plans::small(mark, 9, plans::HALF, r));
     let t = compare_all(grown_by_four(t, r));
     compare_all(grown(grown(t, r), next(r)));
 }

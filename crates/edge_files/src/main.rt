@@ -47,8 +47,8 @@ fn play_random(n: usize, links: Links)
     requires { n ≤ 64 }
 {
     let r = seed(n, links);
-    let two_way = plans::small(Mark::TwoWay, n, links, r);
-    let one_way = plans::small(Mark::OneWay, n, links, r);
+    let two_way = plans::small(Mark::TwoWay, n, links as u8, r);
+    let one_way = plans::small(Mark::OneWay, n, links as u8, r);
     play(&two_way[..n]);
     exported::export(Mark::OneWay, &one_way[..n], 50);
     exported::export(Mark::OneWay, &two_way[..n], 0);

@@ -2,7 +2,7 @@
 // number, 64 points in a row, and an output list before a call.
 #![tactic(auto)]
 
-use searches::{Comparison, Kind, Mark, Refusal};
+use searches::{Comparison, Kind, Mark};
 use std::array;
 
 // Prints one byte.
@@ -27,36 +27,36 @@ pub fn letter(answer: Comparison) -> u8 {
     }
 }
 
-// The number that is printed for a call that hands its result over elsewhere: 0, or that of its refusal.
-pub fn outcome(answer: Result<(), Refusal>) -> u64 {
+// The number that is printed for a call that hands its result over elsewhere: 0, or the number that it answers in place of a result.
+pub fn outcome(answer: Result<(), u64>) -> u64 {
     match answer {
         Ok(()) => 0,
-        Err(refusal) => refusal as u64,
+        Err(number) => number,
     }
 }
 
-// Prints 0 and the number that was answered, or the number of the refusal and 0.
-pub fn show_answer(answer: Result<u64, Refusal>) {
+// Prints 0 and the number that was answered, or the number that stands in its place and 0.
+pub fn show_answer(answer: Result<u64, u64>) {
     match answer {
         Ok(number) => {
             show(0);
             show(number);
         }
-        Err(refusal) => {
-            show(refusal as u64);
+        Err(number) => {
+            show(number);
             show(0);
         }
     }
 }
 
-// How one vertex stands to another, or the number of the refusal.
-pub fn show_standing(standing: Result<Comparison, Refusal>) {
+// How one vertex stands to another, or the number that is answered in its place.
+pub fn show_standing(standing: Result<Comparison, u64>) {
     match standing {
         Ok(answer) => {
             put(b' ');
             put(letter(answer));
         }
-        Err(refusal) => show(refusal as u64),
+        Err(number) => show(number),
     }
 }
 

@@ -37,7 +37,7 @@ fn shown(traversal: Traversal) -> Traversal {
     let next = seen.traversal;
     let mark = next.mark;
     let places = next.ordering;
-    notation::show_answer(seen.set);
+    notation::show_answer(seen.set.map_err(|refusal| refusal as u64));
     show(mark as u64);
     show(next.n as u64);
     show(next.k as u64);
@@ -52,7 +52,7 @@ fn told(kind: u8, call: u64, stepped: Stepped) -> Traversal {
     let next = stepped.traversal;
     io::print_decimal(1, u64::from(kind));
     show(call);
-    show(notation::outcome(outcome));
+    show(notation::outcome(outcome.map_err(|refusal| refusal as u64)));
     shown(next)
 }
 

@@ -14,6 +14,15 @@ pub enum Links {
     Pieces,
 }
 
+// The same as numbers.
+pub const FEW: u8 = 0;
+
+pub const HALF: u8 = 1;
+
+pub const MANY: u8 = 2;
+
+pub const PIECES: u8 = 3;
+
 const EVEN: u64 = 0x5555555555555555;
 
 const ODD: u64 = 0xaaaaaaaaaaaaaaaa;
@@ -88,10 +97,22 @@ fn linked(rows: [u64; 64], set: u64, u: usize) -> [u64; 64]
     all
 }
 
+// What a number stands for: three quarters where it is none of the four.
+fn links_of(number: u8) -> Links {
+    match number {
+        FEW => Links::Few,
+        HALF => Links::Half,
+        PIECES => Links::Pieces,
+        _ => Links::Many,
+    }
+}
+
 // A plan of n points; the other rows are 0. One-way, u leads to each point that is drawn for it; two-way, it is linked to the smaller ones of them.
-pub fn small(mark: Mark, n: usize, links: Links, random: u64) -> [u64; 64]
+// `links` is one of the four numbers, and any other number stands for `MANY`.
+pub fn small(mark: Mark, n: usize, links: u8, random: u64) -> [u64; 64]
     requires { n ≤ 64 }
 {
+    let links = links_of(links);
     let mut rows = [0u64; 64];
     let mut r = random;
     // two-way, the step for u writes the rows of smaller points as well, so it takes all rows

@@ -80,7 +80,7 @@ fn play(mark: Mark, n: usize, links: Links)
     requires { n ≤ 64 }
 {
     let r = seed(mark, n, links);
-    let rows = plans::small(mark, n, links, r);
+    let rows = plans::small(mark, n, links as u8, r);
     let barred = bitset::full_below(n) & (r >> 9) & (r >> 40);
     say_some(mark, &rows[..n], 0, r, ENOUGH);
     say_some(mark, &rows[..n], barred, next(r), 128);

@@ -11,7 +11,11 @@ fn play(mark: Mark, rows: &[u64], ordering: &[u8], vertex: u8, output: &mut [u8]
     show(u64::from(vertex));
     show(output.len() as u64);
     let answer = route::way_back(mark, rows, ordering, Vertex(vertex), output);
-    show_answer(answer.map(|count| count as u64));
+    show_answer(
+        answer
+            .map(|count| count as u64)
+            .map_err(|refusal| refusal as u64),
+    );
     show_list(output);
     put(b'\n');
 }

@@ -22,7 +22,7 @@ fn judge(kind: u8, rows: &[u64], walk: &[u8]) {
 fn carry_on(kind: u8, rows: &[u64], walk: &[u8]) {
     let mut output = notation::all_points();
     let carried = engine::carry_on(Kind(kind), Mark::TwoWay, rows, 0, walk, &mut output, 64);
-    show(notation::outcome(carried));
+    show(notation::outcome(carried.map_err(|refusal| refusal as u64)));
     show(check::same(&output, walk) as u64);
 }
 
