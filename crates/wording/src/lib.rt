@@ -32,10 +32,13 @@ pub fn judge_in_words(
     ensures answer { told_of result ≡ words_answer kind.0 mark rows.now barred ordering.now output.old }
     ensures output { output.new ≡ words_output kind.0 mark rows.now barred ordering.now output.old }
 {
-    let judgement = engine::judge(kind, mark, rows, barred, ordering)?;
-    if output.len() < 96 {
+    let judged = engine::judge(kind, mark, rows, barred, ordering);
+    let short = output.len() < 96;
+    let late = judged.is_ok() & short;
+    if late {
         return Err(Refusal::OutputTooShort);
     }
+    let judgement = judged?;
     let end = write_sentence(kind, judgement, output);
     Ok(end)
 }
